@@ -1,0 +1,5 @@
+pub mod Refusals
+pub mod Channels
+pub mod Framing
+pub mod KeepAlive
+pub mod Types

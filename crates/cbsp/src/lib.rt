@@ -1,0 +1,6 @@
+// What every part of the controller's end of CBSP shares: refusals, framing, message types, channels, keep-alive times.
+pub mod channel;
+pub mod framing;
+pub mod keep_alive;
+pub mod message_type;
+pub mod refusal;
