@@ -1,7 +1,7 @@
 -- Framing: a message is a type octet, a Length Indicator of three octets with the most significant first, and that many octets.
 use mathlib.Core.List.{List}
 use mathlib.Core.Bool.{cond}
-use Prim.Native.Nat.{ℕ, _+_, _*_}
+use Prim.Native.Nat.{ℕ, _+_, _*_, _≤_}
 use lib.Dec.{ltb}
 use lib.ListN.{length, getD}
 use Rattle.std.specs.declared.option.Option.{Option}
@@ -22,3 +22,9 @@ firstLength os =
     cond (ltb (length os) 4) (Ok None)
     (cond (ltb 2048 (announced os)) (Err MessageTooLong)
     (cond (ltb (length os) (announced os)) (Ok None) (Ok (Some (announced os)))))
+
+-- a length that is answered is that of a header at least, and lies within the octets
+abbrev pub WithinFrame : List ℕ → Result (Option ℕ) Refusal → Type 0
+WithinFrame os (Ok None) = Unit {0}
+WithinFrame os (Ok (Some n)) = (4 ≤ n) × (n ≤ length os) × (n ≤ 2048)
+WithinFrame os (Err e) = Unit {0}

@@ -1,6 +1,7 @@
 // The two channels of a cell on which messages are broadcast.
 ghost use mathlib.Core.Path.{_≡_};
 ghost use Rattle.cbsp.specs.Channels.{channelCode, channelOf};
+use std::fmt;
 
 #[derive(Clone, Copy, PartialEq, Eq, Debug)]
 pub enum Channel {
@@ -28,5 +29,19 @@ impl Channel {
             1 => Some(Channel::Extended),
             _ => None,
         }
+    }
+
+    // Its name in the standard.
+    fn name(self) -> &'static str {
+        match self {
+            Channel::Basic => "basic channel",
+            Channel::Extended => "extended channel",
+        }
+    }
+}
+
+pub impl fmt::Display for Channel as ChannelDisplay {
+    fn fmt<W: fmt::Write>(&self, f: &mut fmt::Formatter<W>) -> fmt::Result {
+        f.write_str(self.name())
     }
 }

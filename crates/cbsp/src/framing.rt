@@ -1,6 +1,6 @@
 // Where the first message of a stream of octets ends.
 ghost use mathlib.Core.Path.{_≡_};
-ghost use Rattle.cbsp.specs.Framing.{firstLength};
+ghost use Rattle.cbsp.specs.Framing.{WithinFrame, firstLength};
 use crate::refusal::Refusal;
 
 // The type octet and the Length Indicator.
@@ -11,7 +11,8 @@ pub const LONGEST: usize = 2048;
 
 // The length of the first message, nothing while it is not whole.
 pub fn first_length(octets: &[u8]) -> Result<Option<usize>, Refusal>
-    ensures { λ r. ⌜ r ≡ firstLength (now (octets .entry)) ⌝ }
+    ensures answer { λ r. ⌜ r ≡ firstLength (now (octets .entry)) ⌝ }
+    ensures within { λ r. ⌜ WithinFrame (now (octets .entry)) r ⌝ }
 {
     if octets.len() < HEADER {
         return Ok(None);

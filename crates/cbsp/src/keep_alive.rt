@@ -1,6 +1,7 @@
 // The times of a Keep Alive Repetition Period.
 ghost use mathlib.Core.Path.{_≡_};
-ghost use Rattle.cbsp.specs.KeepAlive.{secondsOf};
+ghost use lib.ListN.{length};
+ghost use Rattle.cbsp.specs.KeepAlive.{Edges, Stepped, secondsOf, times};
 
 // The seconds of the codes from 1 on.
 pub const SECONDS: [u8; 38] = [
@@ -57,3 +58,16 @@ pub fn seconds(code: u8) -> Option<u8>
     }
     Some(SECONDS[place])
 }
+
+// The largest code.
+pub fn last_code() -> usize
+    ensures { λ r. ⌜ r ≡ length times ⌝ }
+{
+    SECONDS.len()
+}
+
+// Holds the law of the table: it rises by its rule from the first code to the last.
+pub fn times_rise_by_rule()
+    ensures stepped { λ _. ⌜ Stepped ⌝ }
+    ensures edges { λ _. ⌜ Edges ⌝ }
+{}

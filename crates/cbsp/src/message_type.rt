@@ -1,8 +1,9 @@
 // The type octet of a message.
 ghost use mathlib.Core.Path.{_≡_};
 ghost use Rattle.cbsp.specs.Types.{typeCode, typeOf};
+use std::fmt;
 
-#[derive(Clone, Copy, PartialEq, Eq, Debug)]
+#[derive(Clone, Copy)]
 pub enum MessageType {
     WriteReplace,
     WriteReplaceComplete,
@@ -91,5 +92,40 @@ impl MessageType {
             0x17 => Some(MessageType::KeepAliveComplete),
             _ => None,
         }
+    }
+
+    // Its name in the standard.
+    fn name(self) -> &'static str {
+        match self {
+            MessageType::WriteReplace => "WRITE-REPLACE",
+            MessageType::WriteReplaceComplete => "WRITE-REPLACE COMPLETE",
+            MessageType::WriteReplaceFailure => "WRITE-REPLACE FAILURE",
+            MessageType::Kill => "KILL",
+            MessageType::KillComplete => "KILL COMPLETE",
+            MessageType::KillFailure => "KILL FAILURE",
+            MessageType::LoadQuery => "LOAD QUERY",
+            MessageType::LoadQueryComplete => "LOAD QUERY COMPLETE",
+            MessageType::LoadQueryFailure => "LOAD QUERY FAILURE",
+            MessageType::MessageStatusQuery => "MESSAGE STATUS QUERY",
+            MessageType::MessageStatusQueryComplete => "MESSAGE STATUS QUERY COMPLETE",
+            MessageType::MessageStatusQueryFailure => "MESSAGE STATUS QUERY FAILURE",
+            MessageType::SetDrx => "SET-DRX",
+            MessageType::SetDrxComplete => "SET-DRX COMPLETE",
+            MessageType::SetDrxFailure => "SET-DRX FAILURE",
+            MessageType::Reset => "RESET",
+            MessageType::ResetComplete => "RESET COMPLETE",
+            MessageType::ResetFailure => "RESET FAILURE",
+            MessageType::Restart => "RESTART",
+            MessageType::Failure => "FAILURE",
+            MessageType::ErrorIndication => "ERROR INDICATION",
+            MessageType::KeepAlive => "KEEP-ALIVE",
+            MessageType::KeepAliveComplete => "KEEP-ALIVE COMPLETE",
+        }
+    }
+}
+
+pub impl fmt::Display for MessageType as MessageTypeDisplay {
+    fn fmt<W: fmt::Write>(&self, f: &mut fmt::Formatter<W>) -> fmt::Result {
+        f.write_str(self.name())
     }
 }

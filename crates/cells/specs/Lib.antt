@@ -1,0 +1,3 @@
+pub mod Capabilities
+pub mod File
+pub mod Held
