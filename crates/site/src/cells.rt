@@ -13,7 +13,7 @@ pub const CELLS: usize = 64;
 pub const MOST: u64 = 0x1_0000_0000_0000;
 
 // An array with one value for every cell.
-pub fn for_each_cell<T: Copy>(value: T) -> [T; 64]
+pub(crate) fn for_each_cell<T: Copy>(value: T) -> [T; 64]
     ensures { λ r. ⌜ ((k : ℕ) (d : T) → within k (getD r k d) d ≡ within k value d) ⌝ }
 {
     [value; CELLS]
