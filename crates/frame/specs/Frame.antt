@@ -1,0 +1,57 @@
+-- What a frame site means, and how each call moves its memory.
+use mathlib.Core.Path.{_≡_}
+use mathlib.Core.Bool.{Bool, true, false, cond}
+use mathlib.Core.List.{List}
+use Prim.Native.Nat.{ℕ, _+_}
+use lib.Dec.{ltb}
+use lib.ListN.{length}
+use denote.Ref.{name}
+use native.Mathlib.Omega.{arith}
+use borrow.Author.Tests.{le-ltb}
+use Rattle.std.specs.declared.result.Result.{Result}
+use Rattle.std.specs.declared.result.Result.the-variants.{Ok, Err}
+use Rattle.cbsp.specs.declared.refusal.Refusal.{Refusal}
+use Rattle.cbsp.specs.declared.refusal.Refusal.the-variants.{FrameMemoryTooSmall}
+use Rattle.site.specs.Model.{Model, Past, Sound}
+use Rattle.site.specs.Cells.{within, openAt, countAt}
+use Rattle.site.specs.Events.{Event}
+use Rattle.site.specs.Events.Event.{switched, started, offered}
+use Rattle.frame.specs.declared.frame_site.FrameSite.{FrameSite}
+use Rattle.frame.specs.Record.{put, recordOctets, recordLength}
+
+-- the memory of sixteen broadcasts with fifteen pages each
+abbrev pub memoryCheck : ℕ → Result (Unit {0}) Refusal
+memoryCheck octets = cond (ltb octets 21152) (Err FrameMemoryTooSmall) (Ok tt)
+
+-- one room for all cells
+abbrev pub frameModel : FrameSite → Model
+frameModel s = record {
+  capacity = 16;
+  opened = openAt (s .cells);
+  room = λ k. within k (s .cursor .left) 0;
+  count = countAt (s .cells);
+}
+
+pub frameSound : (s : FrameSite) → Sound (frameModel s)
+frameSound s = record {
+  past = λ k le. let e = le-ltb k 64 le in record { opened = rw e; room = rw e; count = λ h. rw e };
+  roomy = omega arith;
+}
+
+-- the octets used in the period
+abbrev pub usedAfter : ℕ → Event → ℕ
+usedAfter used (switched k b) = used
+usedAfter used started = 0
+usedAfter used (offered k h m r) = cond r (used + recordLength m) used
+
+-- a broadcast that is done is written behind those before it, if the memory is large enough; nothing else writes
+abbrev pub memoryAfter : ℕ → Event → List ℕ → List ℕ
+memoryAfter used (switched k b) memory = memory
+memoryAfter used started memory = memory
+memoryAfter used (offered k h m r) memory = cond r (cond (ltb (length memory) 21152) memory (put used (recordOctets k h m) memory)) memory
+
+-- how a call moves a frame site beside its meaning; the memory is the lender's all along
+pub record Steps (s : FrameSite) (e : Event) (t : FrameSite) : Type 0 where
+  pub lender : name (t .memory) ≡ name (s .memory)
+  pub used : t .cursor .used ≡ usedAfter (s .cursor .used) e
+  pub memory : t .memory .now ≡ memoryAfter (s .cursor .used) e (s .memory .now)

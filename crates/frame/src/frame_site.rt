@@ -1,0 +1,98 @@
+// A site over memory that the host lends.
+ghost use mathlib.Core.Path.{_≡_};
+ghost use mathlib.Core.Bool.{true, false};
+ghost use Prim.Native.Nat.{ℕ, _+_, _-_, _<_, _≤_};
+ghost use lib.ListN.{length};
+ghost use denote.Ref.{name};
+ghost use Rattle.site.specs.Model.{New};
+ghost use Rattle.frame.specs.Frame.{frameModel, frameSound, Steps, memoryCheck};
+use crate::cursor::CAPACITY;
+use crate::cursor::Cursor;
+use crate::cursor::MEMORY;
+use crate::record::record_length;
+use crate::record::write_record;
+use cbsp::channel::Channel;
+use cbsp::refusal::Refusal;
+use site::Site;
+use site::cells::CELLS;
+use site::cells::Cells;
+use site::message::CbsMessage;
+
+#[derive(Drop)]
+pub struct FrameSite<'a> {
+    cells: Cells,
+    cursor: Cursor,
+    memory: &'a mut [u8],
+}
+
+// Whether a site can write its broadcasts into that memory. On fewer octets it only counts.
+pub fn check_memory(memory: &[u8]) -> Result<(), Refusal>
+    ensures { λ r. ⌜ r ≡ memoryCheck (length (now (memory .entry))) ⌝ }
+{
+    if memory.len() < MEMORY {
+        return Err(Refusal::FrameMemoryTooSmall);
+    }
+    Ok(())
+}
+
+impl<'a> FrameSite<'a> {
+    pub fn new(memory: &'a mut [u8]) -> FrameSite<'a>
+        ensures new { λ r. ⌜ New (frameModel r) ⌝ }
+        ensures lender { λ r. ⌜ name (r .memory) ≡ name (memory .entry) ⌝ }
+        ensures memory { λ r. ⌜ now (r .memory) ≡ now (memory .entry) ⌝ }
+    {
+        FrameSite {
+            cells: Cells::new(),
+            cursor: Cursor::new(),
+            memory,
+        }
+    }
+}
+
+pub impl Site for FrameSite<'_> as FrameSiteImpl {
+    ghost model = { frameModel };
+
+    ghost sound = { frameSound };
+
+    ghost steps = { Steps };
+
+    fn capacity(&self) -> u16 {
+        CAPACITY
+    }
+
+    fn is_open(&self, cell: usize) -> bool {
+        self.cells.is_open(cell)
+    }
+
+    fn room(&self, cell: usize) -> u16 {
+        if cell < CELLS { self.cursor.left() } else { 0 }
+    }
+
+    fn count(&self, cell: usize, channel: Channel) -> u64 {
+        self.cells.count(cell, channel)
+    }
+
+    fn close(&mut self, cell: usize) {
+        self.cells.set_open(cell, false);
+    }
+
+    fn open(&mut self, cell: usize) {
+        self.cells.set_open(cell, true);
+    }
+
+    fn start_period(&mut self) {
+        self.cursor.restart();
+    }
+
+    fn broadcast(&mut self, cell: usize, channel: Channel, message: CbsMessage<'_>) -> bool {
+        if self.room(cell) == 0 || !self.cells.raise(cell, channel) {
+            return false;
+        }
+        let at = self.cursor.used();
+        self.cursor.advance(record_length(message));
+        if self.memory.len() >= MEMORY {
+            write_record(self.memory, at, cell as u8, channel, message);
+        }
+        true
+    }
+}

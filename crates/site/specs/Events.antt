@@ -1,0 +1,20 @@
+-- The calls that move a site.
+use mathlib.Core.Bool.{Bool}
+use Prim.Native.Nat.{ℕ}
+use Rattle.cbsp.specs.declared.channel.Channel.{Channel}
+use Rattle.site.specs.Model.{Model, Switched, Started, Offered}
+use Rattle.site.specs.Messages.{Aired}
+
+pub data Event : Type 0 where
+  switched : ℕ → Bool → Event
+  started : Event
+  offered : ℕ → Channel → Aired → Bool → Event
+
+abbrev pub Moves : Model → Event → Model → Type 0
+Moves m (switched k b) n = Switched k b m n
+Moves m started n = Started m n
+Moves m (offered k h x r) n = Offered k h r m n
+
+pub record Goes {S : Type 0} (model : S → Model) (steps : S → Event → S → Type 0) (s : S) (e : Event) (t : S) : Type 0 where
+  pub meaning : Moves (model s) e (model t)
+  pub itself : steps s e t
