@@ -1,0 +1,5 @@
+pub mod Octets
+pub mod Codes
+pub mod Faults
+pub mod Elements
+pub mod Codec

@@ -1,0 +1,10 @@
+// Information elements: their faults, the codes of their values, how one is found, read and written.
+pub mod broadcast;
+pub mod category;
+pub mod cause;
+pub mod coded;
+pub mod faults;
+pub mod finding;
+pub mod octets;
+pub mod reading;
+pub mod recovery;
