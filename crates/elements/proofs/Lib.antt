@@ -1,1 +1,5 @@
 pub mod Puts
+pub mod Standing
+pub mod Laws
+pub mod Fixed
+pub mod Codings
