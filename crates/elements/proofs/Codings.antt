@@ -43,7 +43,7 @@ use Rattle.elements.proofs.Fixed.{coded-laws}
 use Rattle.elements.proofs.Standing.{cond-was}
 
 -- one case of a table of codes
-step :
+pub step :
     {V : Type 0} (encode : V → ℕ) (x : V) (o i : ℕ) (rest : Option V) (v : V) → encode x ≡ i → cond (eqb o i) (Some x) rest ≡ Some v
     → (rest ≡ Some v → encode v ≡ o) → encode v ≡ o
 step encode x o i rest v c e other =
@@ -52,7 +52,7 @@ step encode x o i rest v c e other =
       | inr p ↦ other (p .1)
     ]
 
-last : {V : Type 0} (encode : V → ℕ) (o : ℕ) (v : V) → None ≡ Some v → encode v ≡ o
+pub last : {V : Type 0} (encode : V → ℕ) (o : ℕ) (v : V) → None ≡ Some v → encode v ≡ o
 last encode o v e = let z : _≡_ {A = ℕ} 0 1 = cc in absurd (omega arith)
 
 pub channel-there : (o : ℕ) (v : Channel) → channelOf o ≡ Some v → channelCode v ≡ o
