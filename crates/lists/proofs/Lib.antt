@@ -1,2 +1,5 @@
 pub mod Puts
 pub mod Small
+pub mod Steps
+pub mod From
+pub mod Slices

@@ -1,3 +1,5 @@
 pub mod Cells
 pub mod Entries
 pub mod Kinds
+pub mod Views
+pub mod Listed
