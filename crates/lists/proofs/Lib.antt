@@ -3,3 +3,5 @@ pub mod Small
 pub mod Steps
 pub mod From
 pub mod Slices
+pub mod Forth
+pub mod Back

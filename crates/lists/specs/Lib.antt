@@ -3,3 +3,4 @@ pub mod Entries
 pub mod Kinds
 pub mod Views
 pub mod Listed
+pub mod Laws
