@@ -3,6 +3,8 @@ use mathlib.Core.List.{List, [], _∷_, _++_}
 use mathlib.Core.Path.{_≡_}
 use Prim.Native.Nat.{ℕ, _+_, _*_, _/_, _%_, _<_}
 use lib.ListN.{getD, length, take, drop}
+use Rattle.std.specs.declared.option.Option.{Option}
+use Rattle.std.specs.declared.option.Option.the-variants.{Some, None}
 use Rattle.std.specs.declared.result.Result.{Result}
 use Rattle.std.specs.declared.result.Result.the-variants.{Ok, Err}
 
@@ -52,3 +54,8 @@ Told m (Err e) s = s ≡ Err e
 abbrev pub Got : {X V F : Type 0} → (X → V) → Result (X × ℕ) F → Result (V × ℕ) F → Type 0
 Got m (Ok p) s = s ≡ Ok (m (p .0), p .1)
 Got m (Err f) s = s ≡ Err f
+
+-- what a value that may be absent means
+abbrev pub mapped : {X V : Type 0} → (X → V) → Option X → Option V
+mapped m None = None
+mapped m (Some x) = Some (m x)

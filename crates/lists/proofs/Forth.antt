@@ -74,7 +74,7 @@ assembled k h end os at form mid q f g s n c m v =
     let own = subst (λ (x : ℕ). Stands os at end (ownForm (k .headed) x) mid) e f in (
       joins os at mid end _ _ _ own (joins os mid (q .1) end _ _ _ (n .0) (part-stands os (q .1) (k .tail) end c m)),
       and-from _ _ (subst (λ (x : ℕ). formed (k .headed) h x ≡ true) e g)
-      (and-from _ _ (subst (λ (x : ℕ). k .forms x ≡ true) e s) (and-from _ _ (eq-eqb _ _ (length-take-le (k .tail) (drop (q .1) os) (omega arith))) v)),
+          (and-from _ _ (subst (λ (x : ℕ). k .forms x ≡ true) e s) (and-from _ _ (eq-eqb _ _ (length-take-le (k .tail) (drop (q .1) os) (omega arith))) v)),
     )
 
 checked-ok : (o : Option ℕ) (e : Entry) (at next : ℕ) (p : Entry × ℕ) → checked o e at next ≡ Ok p → (unflawed o ≡ true) × ((e, next) ≡ p)

@@ -44,4 +44,3 @@ wrote-more k m es i d at o₁ o₂ o₃ a b h l p q =
     = joined-more (spellEntry k) [] (map m (take i es)) (m (getD es i d)) ∙ ap (spellEntries k) (sym (map-more m es i d h)) in
     subst (λ (t : List ℕ). Wrote t at o₁ o₃ b) e
     (wrote-then _ _ at o₁ o₂ o₃ a b (omega (arith, room-more k m es i d h)) p q)
-

@@ -4,3 +4,6 @@ pub mod Kinds
 pub mod Views
 pub mod Listed
 pub mod Laws
+pub mod Lists
+pub mod Spans
+pub mod CellLists
