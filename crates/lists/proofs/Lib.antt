@@ -5,3 +5,5 @@ pub mod From
 pub mod Slices
 pub mod Forth
 pub mod Back
+pub mod ListLaws
+pub mod CellLaws

@@ -54,3 +54,17 @@ impl<E: ListEntry + Copy> Entries<'_, E> {
         }
     }
 }
+
+pub impl<E: ListEntry + Copy> Iterator for Entries<'_, E> as EntriesIterator {
+    type Item = E;
+
+    ghost steps = { λ s r t. Next (E·ListEntry .meant) r (listed (E·ListEntry .kind) (E·ListEntry .meant) s) (listed (E·ListEntry .kind) (E·ListEntry .meant) t) × Fewer r (leftOf s) (leftOf t) };
+
+    ghost ends = { λ _. Unit {0} };
+
+    ghost left = { λ s. leftOf s };
+
+    fn next(&mut self) -> Option<E> {
+        self.advance()
+    }
+}

@@ -5,5 +5,6 @@ pub mod entries;
 pub mod entry;
 pub mod iterate;
 pub mod kinds;
+pub mod laws;
 pub mod list_elements;
 pub mod reading;
