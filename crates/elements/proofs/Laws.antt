@@ -80,7 +80,7 @@ lawful-via {A} {B} to from c there back laws = record {
 }
 
 -- an element, from what follows its identifier
-found : (id : ℕ) (os : List ℕ) (at body : ℕ) → find id os at ≡ Ok (Some body) → (at < length os) × (getD os at 0 ≡ id) × (at + 1 ≡ body)
+pub found : (id : ℕ) (os : List ℕ) (at body : ℕ) → find id os at ≡ Ok (Some body) → (at < length os) × (getD os at 0 ≡ id) × (at + 1 ≡ body)
 found id os at body e =
     elim (cond-was (ltb at (length os)) _ _ _ e) [
       | inl p ↦ elim (cond-was (eqb (getD os at 0) id) _ _ _ (p .1)) [
