@@ -3,3 +3,4 @@ pub mod Standing
 pub mod Laws
 pub mod Fixed
 pub mod Codings
+pub mod Whole

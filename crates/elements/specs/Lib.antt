@@ -3,3 +3,5 @@ pub mod Codes
 pub mod Faults
 pub mod Elements
 pub mod Codec
+pub mod Parts
+pub mod Whole

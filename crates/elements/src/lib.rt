@@ -6,5 +6,6 @@ pub mod coded;
 pub mod faults;
 pub mod finding;
 pub mod octets;
+pub mod parts;
 pub mod reading;
 pub mod recovery;
