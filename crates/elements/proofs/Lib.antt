@@ -1,0 +1,6 @@
+pub mod Puts
+pub mod Standing
+pub mod Laws
+pub mod Fixed
+pub mod Codings
+pub mod Whole
