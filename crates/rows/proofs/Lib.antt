@@ -1,3 +1,4 @@
 pub mod Places
+pub mod Searching
 pub mod Linking
 pub mod Turning

@@ -30,6 +30,6 @@ module _ {A X : Type 0} (f : A → X) (cs ds : List A) (i : ℕ) (d : A) (e : X)
       rw map-set (linked-more R (map f cs) (map f ds) i e (f x) s u t within same rest a (subst (λ (y : X). R i y u (f x) t) (sym (getD-map f ds i d e (omega arith))) b))
 
 -- all had their turns
-pub told-end : {A X S : Type 0} (f : A → X) (cs ds : List A) (i : ℕ) (R : ℕ → X → S → X → S → Type 0) (s t : S) → length cs ≤ i → length ds ≡ length cs → Linked R 0 (take i (map f cs)) s (take i (map f ds)) t → Linked R 0 (map f cs) s (map f ds) t
-told-end f cs ds i R s t le long a =
+pub linked-end : {A X S : Type 0} (f : A → X) (cs ds : List A) (i : ℕ) (R : ℕ → X → S → X → S → Type 0) (s t : S) → length cs ≤ i → length ds ≡ length cs → Linked R 0 (take i (map f cs)) s (take i (map f ds)) t → Linked R 0 (map f cs) s (map f ds) t
+linked-end f cs ds i R s t le long a =
     rw (take-all i (map f cs) (rw length-map le), take-all i (map f ds) (rw length-map (omega arith))) at a

@@ -3,7 +3,7 @@ ghost use mathlib.Core.Path.{_≡_};
 ghost use Prim.Native.Nat.{_<_};
 ghost use lib.ListN.{length};
 ghost use Rattle.std.specs.Slices.{found};
-ghost use Rattle.rows.specs.Keys.{codeOf, isSame, keyOf, placeOf};
+ghost use Rattle.rows.specs.Keys.{codeOf, firstOf, isSame, keyOf, placeOf};
 use crate::row::Row;
 use cbsp::channel::Channel;
 use cbsp::channel::ChannelPartialEq;
@@ -52,6 +52,18 @@ pub fn place_of(rows: &[Row], key: Key) -> Option<usize>
     for (i, row) in rows.iter().enumerate() {
         if key.is_of(row) {
             return Some(i);
+        }
+    }
+    None
+}
+
+// The first message that is the same.
+pub fn first_of(rows: &[Row], key: Key) -> Option<Row>
+    ensures { λ r. ⌜ r ≡ firstOf (isSame key) (now (rows .entry)) ⌝ }
+{
+    for row in rows {
+        if key.is_of(row) {
+            return Some(*row);
         }
     }
     None

@@ -6,7 +6,7 @@ use Rattle.rows.specs.declared.row.Row.{Row}
 use Rattle.rows.specs.Held.{rowsOf}
 use Rattle.rows.specs.Sweep.{Turns}
 use Rattle.rows.specs.Texts.{textOf}
-use Rattle.rows.proofs.Turning.{told-all-at, told-rest, told-more, told-end}
+use Rattle.rows.proofs.Turning.{told-all-at, told-rest, told-more, linked-end}
 use Rattle.rows.proofs.sweep.serve_all.Needs as need
 
 pub loop-cell-holds : need.loop-cell-holds
@@ -30,6 +30,6 @@ loop-cell-again g c =
 
 pub returns : need.returns
 returns g c =
-    told-end rowsOf (c .args .cells .now) (c .loop-cell .cells) (c .loop-cell .cell)
+    linked-end rowsOf (c .args .cells .now) (c .loop-cell .cells) (c .loop-cell .cell)
     (Turns (g .S·Site .model) (g .S·Site .steps) (map textOf (c .args .contents .now))) (c .args .site .now) _ (c .loop-cell-test .left) (c .loop-cell .kept .cells)
     (c .loop-cell .inv .0)
