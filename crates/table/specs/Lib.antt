@@ -1,2 +1,4 @@
 pub mod Outcomes
 pub mod Pool
+pub mod Settings
+pub mod References
