@@ -2,3 +2,4 @@ pub mod Outcomes
 pub mod Pool
 pub mod Settings
 pub mod References
+pub mod Write

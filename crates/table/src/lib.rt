@@ -1,6 +1,8 @@
 // What a request does in the cells that it names.
+pub mod asked;
 mod cells;
 pub mod outcome;
 mod pool;
 pub mod references;
 pub mod request;
+pub mod write;
