@@ -1,3 +1,4 @@
 pub mod Searches
 pub mod Places
 pub mod Writing
+pub mod Folding

@@ -3,3 +3,4 @@ pub mod Pool
 pub mod Settings
 pub mod References
 pub mod Write
+pub mod Handling

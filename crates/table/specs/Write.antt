@@ -13,8 +13,14 @@ use Rattle.cells.specs.declared.cell.Capability.{Capability}
 use Rattle.cells.specs.declared.cell.Capability.the-variants.{NoChannel, BasicOnly, BothChannels}
 use Rattle.elements.specs.declared.cause.Cause.{Cause}
 use Rattle.elements.specs.declared.cause.Cause.the-variants.{
-    MessageReferenceNotIdentified, CellMemoryExceeded, BscMemoryExceeded, CellBroadcastNotSupported, CellBroadcastNotOperational, ExtendedChannelNotSupported,
-    MessageReferenceAlreadyUsed}
+  MessageReferenceNotIdentified,
+  CellMemoryExceeded,
+  BscMemoryExceeded,
+  CellBroadcastNotSupported,
+  CellBroadcastNotOperational,
+  ExtendedChannelNotSupported,
+  MessageReferenceAlreadyUsed,
+}
 use Rattle.rows.specs.declared.row.Row.{Row}
 use Rattle.rows.specs.declared.key.Key.{Key}
 use Rattle.rows.specs.Keys.{keyOf, isSame, firstOf, without}
@@ -33,14 +39,14 @@ keyIn q serial = keyOf (q .channel) (q .identifier) serial
 abbrev pub rowOf : Asked → ℕ → Row
 rowOf q slot =
     record {
-        channel = q .channel;
-        identifier = q .identifier;
-        serial = q .serial;
-        period = q .period;
-        requested = q .requested;
-        count = 0;
-        wait = 0;
-        slot = slot
+      channel = q .channel;
+      identifier = q .identifier;
+      serial = q .serial;
+      period = q .period;
+      requested = q .requested;
+      count = 0;
+      wait = 0;
+      slot = slot;
     }
 
 -- a cell can broadcast at all; it can on a channel

@@ -1,6 +1,7 @@
 // What a request does in the cells that it names.
 pub mod asked;
 mod cells;
+pub mod handling;
 pub mod outcome;
 mod pool;
 pub mod references;

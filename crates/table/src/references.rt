@@ -62,7 +62,13 @@ pub impl CellRequest for Kill as KillRequest {
 
     ghost becomes = { λ q s. q };
 
-    fn apply(&mut self, rows: &mut [Rows], cell: usize, _capability: Capability, _opened: bool) -> Outcome {
+    fn apply(
+        &mut self,
+        rows: &mut [Rows],
+        cell: usize,
+        _capability: Capability,
+        _opened: bool,
+    ) -> Outcome {
         counted_in(cell, take_at(rows, cell, self.key))
     }
 }
@@ -74,7 +80,13 @@ pub impl CellRequest for Query as QueryRequest {
 
     ghost becomes = { λ q s. q };
 
-    fn apply(&mut self, rows: &mut [Rows], cell: usize, _capability: Capability, _opened: bool) -> Outcome {
+    fn apply(
+        &mut self,
+        rows: &mut [Rows],
+        cell: usize,
+        _capability: Capability,
+        _opened: bool,
+    ) -> Outcome {
         counted_in(cell, first_of(rows_at(rows, cell), self.key))
     }
 }
@@ -86,7 +98,13 @@ pub impl CellRequest for Reset as ResetRequest {
 
     ghost becomes = { λ q s. q };
 
-    fn apply(&mut self, rows: &mut [Rows], cell: usize, _capability: Capability, _opened: bool) -> Outcome {
+    fn apply(
+        &mut self,
+        rows: &mut [Rows],
+        cell: usize,
+        _capability: Capability,
+        _opened: bool,
+    ) -> Outcome {
         clear_at(rows, cell);
         Outcome {
             whom: Naming::Cell(cell),

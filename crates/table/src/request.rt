@@ -22,7 +22,13 @@ pub trait CellRequest {
     // The request itself after it.
     ghost becomes: { Self → Setting → Self };
 
-    fn apply(&mut self, rows: &mut [Rows], cell: usize, capability: Capability, opened: bool) -> Outcome
+    fn apply(
+        &mut self,
+        rows: &mut [Rows],
+        cell: usize,
+        capability: Capability,
+        opened: bool,
+    ) -> Outcome
         requires { ⌜ cell < length (now rows) ⌝ }
         ensures answer { λ r. ⌜ r ≡ answer (now (self .entry)) (setting (map rowsOf (now (rows .entry))) cell capability opened) ⌝ }
         ensures leaves { λ _. ⌜ map rowsOf (now (rows .exit)) ≡ leaves (now (self .entry)) (setting (map rowsOf (now (rows .entry))) cell capability opened) ⌝ }

@@ -68,7 +68,12 @@ fn is_old_absent(asked: &Asked, rows: &[Row]) -> bool
 }
 
 // Why nothing is done in a cell.
-pub(crate) fn bar(asked: &Asked, capability: Capability, opened: bool, rows: &[Row]) -> Option<Cause>
+pub(crate) fn bar(
+    asked: &Asked,
+    capability: Capability,
+    opened: bool,
+    rows: &[Row],
+) -> Option<Cause>
     ensures { λ r. ⌜ r ≡ barred (now (asked .entry)) capability opened (now (rows .entry)) ⌝ }
 {
     if !has_channel(capability) {

@@ -47,7 +47,13 @@ pub impl CellRequest for Write as WriteRequest {
 
     ghost becomes = { writeAfter };
 
-    fn apply(&mut self, rows: &mut [Rows], cell: usize, capability: Capability, opened: bool) -> Outcome {
+    fn apply(
+        &mut self,
+        rows: &mut [Rows],
+        cell: usize,
+        capability: Capability,
+        opened: bool,
+    ) -> Outcome {
         let whom = Naming::Cell(cell);
         if let Some(cause) = bar(&self.asked, capability, opened, rows_at(rows, cell)) {
             return Outcome {

@@ -19,5 +19,5 @@ returns c =
     let short : length rs < 8 = omega (arith, ap length (there cs k d (c .pre .there)), c .pre .room) in
     let took : c .push .result ≡ true = c .push .ensures .room ∙ lt-ltb (length rs) 8 short in
     let after : rowsOf (c .push .last .self) ≡ rs ++ c .args .row ∷ [] =
-        c .push .ensures .after ∙ ap (λ (b : Bool). cond b (rs ++ c .args .row ∷ []) rs) took in
+    c .push .ensures .after ∙ ap (λ (b : Bool). cond b (rs ++ c .args .row ∷ []) rs) took in
     moved cs k d (c .pre .there) (c .push .last .self) (λ (ss : List Row). ss ++ c .args .row ∷ []) after

@@ -9,6 +9,6 @@ returns c =
     let k = c .args .cell in
     let d = c .index-cells-cell .result in
     record {
-        value = c .take .ensures .value ∙ ap (firstOf (isSame (c .args .key))) (there cs k d (c .pre));
-        after = moved cs k d (c .pre) (c .take .last .self) (without (isSame (c .args .key))) (c .take .ensures .after)
+      value = c .take .ensures .value ∙ ap (firstOf (isSame (c .args .key))) (there cs k d (c .pre));
+      after = moved cs k d (c .pre) (c .take .last .self) (without (isSame (c .args .key))) (c .take .ensures .after);
     }

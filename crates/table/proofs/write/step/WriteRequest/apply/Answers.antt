@@ -19,9 +19,9 @@ returns c =
     let w = c .args .self .now in
     let s : Setting = setting (map rowsOf (c .args .rows .now)) (c .args .cell) (c .args .capability) (c .args .opened) in
     let r =
-        went-on w s (map rowsOf (c .end-old-ended .last .rows)) (map rowsOf (c .begin-cause .last .rows)) (c .end-old-ended .result) (c .begin-cause .last .slot)
-        (c .begin-cause .result)
-        (c .in-rest .ensures tt ∙ ap (λ (rs : List Row). barred (w .asked) (c .args .capability) (c .args .opened) rs) (c .rows-at .ensures))
-        (c .end-old-ended .ensures .value) (c .end-old-ended .ensures .after) (c .begin-cause .ensures .cause) (c .begin-cause .ensures .rows)
-        (c .begin-cause .ensures .slot) in
+    went-on w s (map rowsOf (c .end-old-ended .last .rows)) (map rowsOf (c .begin-cause .last .rows)) (c .end-old-ended .result) (c .begin-cause .last .slot)
+    (c .begin-cause .result)
+    (c .in-rest .ensures tt ∙ ap (λ (rs : List Row). barred (w .asked) (c .args .capability) (c .args .opened) rs) (c .rows-at .ensures))
+    (c .end-old-ended .ensures .value) (c .end-old-ended .ensures .after) (c .begin-cause .ensures .cause) (c .begin-cause .ensures .rows)
+    (c .begin-cause .ensures .slot) in
     record { answer = r .answer; leaves = r .leaves; becomes = r .becomes }
