@@ -39,10 +39,7 @@ pub fn message_identifier(octets: &[u8], at: usize) -> Result<(u16, usize), Faul
     mandatory_number(octets, at, MESSAGE_IDENTIFIER, 0, 65535)
 }
 
-pub fn optional_message_identifier(
-    octets: &[u8],
-    at: usize,
-) -> Result<(Option<u16>, usize), Fault>
+pub fn optional_message_identifier(octets: &[u8], at: usize) -> Result<(Option<u16>, usize), Fault>
     ensures { λ r. ⌜ r ≡ mayIdentifier .read (now (octets .entry)) at ⌝ }
 {
     optional_number(octets, at, MESSAGE_IDENTIFIER, 0, 65535)
@@ -54,10 +51,7 @@ pub fn new_serial_number(octets: &[u8], at: usize) -> Result<(u16, usize), Fault
     mandatory_number(octets, at, NEW_SERIAL_NUMBER, 0, 65535)
 }
 
-pub fn optional_new_serial_number(
-    octets: &[u8],
-    at: usize,
-) -> Result<(Option<u16>, usize), Fault>
+pub fn optional_new_serial_number(octets: &[u8], at: usize) -> Result<(Option<u16>, usize), Fault>
     ensures { λ r. ⌜ r ≡ mayNewSerial .read (now (octets .entry)) at ⌝ }
 {
     optional_number(octets, at, NEW_SERIAL_NUMBER, 0, 65535)
@@ -69,10 +63,7 @@ pub fn old_serial_number(octets: &[u8], at: usize) -> Result<(u16, usize), Fault
     mandatory_number(octets, at, OLD_SERIAL_NUMBER, 0, 65535)
 }
 
-pub fn optional_old_serial_number(
-    octets: &[u8],
-    at: usize,
-) -> Result<(Option<u16>, usize), Fault>
+pub fn optional_old_serial_number(octets: &[u8], at: usize) -> Result<(Option<u16>, usize), Fault>
     ensures { λ r. ⌜ r ≡ mayOldSerial .read (now (octets .entry)) at ⌝ }
 {
     optional_number(octets, at, OLD_SERIAL_NUMBER, 0, 65535)

@@ -1,0 +1,3 @@
+// The five requests of the broadcast centre.
+pub mod reading;
+pub mod request;
