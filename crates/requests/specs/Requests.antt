@@ -1,9 +1,9 @@
 -- The five requests: what they hold, and their elements in order.
 use mathlib.Core.Path.{_≡_}
-use mathlib.Core.Bool.{Bool}
+use mathlib.Core.Bool.{Bool, true}
 use mathlib.Core.List.{List, _++_}
-use Prim.Native.Nat.{ℕ}
-use lib.ListN.{getD}
+use Prim.Native.Nat.{ℕ, _≤_}
+use lib.ListN.{length, getD, take}
 use Rattle.std.specs.declared.result.Result.{Result}
 use Rattle.std.specs.declared.result.Result.the-variants.{Ok, Err}
 use Rattle.std.specs.declared.option.Option.{Option}
@@ -11,13 +11,14 @@ use Rattle.std.specs.declared.option.Option.the-variants.{Some, None}
 use Rattle.cbsp.specs.declared.channel.Channel.{Channel}
 use Rattle.cbsp.specs.declared.message_type.MessageType.{MessageType}
 use Rattle.cbsp.specs.declared.message_type.MessageType.the-variants as type
-use Rattle.cbsp.specs.Types.{typeOf}
+use Rattle.cbsp.specs.Types.{typeCode, typeOf}
 use Rattle.elements.specs.declared.category.Category.{Category}
 use Rattle.elements.specs.declared.faults.Fault.{Fault}
 use Rattle.elements.specs.Faults.{unrecognised}
+use Rattle.elements.specs.Octets.{Octets}
 use Rattle.elements.specs.Codec.{Codec, seq, via, element, channel}
 use Rattle.elements.specs.Parts.{identifier, newSerial, mayOldSerial, oldSerial, category, repetitionPeriod, broadcastsRequested, numberOfPages, codingScheme, keepAlivePeriod}
-use Rattle.elements.specs.Whole.{readWhole}
+use Rattle.elements.specs.Whole.{readWhole, headed, taken}
 use Rattle.lists.specs.CellLists.{CellsV, cellsMeant, cellList}
 use Rattle.pages.specs.declared.page.Page.{Page}
 use Rattle.pages.specs.Pages.{page, repeated, pagesMeant}
@@ -135,10 +136,6 @@ requestMeant (is.Reset r) = reset (resetMeant r)
 requestMeant (is.KeepAlive k) = keepAlive (keepAliveMeant k)
 
 -- a request of a type, read; another type is not recognised
-abbrev pub taken : {V W : Type 0} → (V → W) → Result V Fault → Result W Fault
-taken make (Ok v) = Ok (make v)
-taken make (Err f) = Err f
-
 abbrev pub readRequestOf : Option MessageType → List ℕ → Result RequestV Fault
 readRequestOf (Some type.WriteReplace) os = taken writeReplace (readWhole writing os)
 readRequestOf (Some type.Kill) os = taken kill (readWhole reference os)
@@ -189,3 +186,10 @@ requestFits (kill r) = reference .fits r
 requestFits (statusQuery r) = reference .fits r
 requestFits (reset c) = cells .fits c
 requestFits (keepAlive n) = keepAlivePeriod .fits n
+
+-- a request that is read spells out to its octets after the header, and one that can be is read from its spelling
+abbrev pub Requests-round-trip : Type 0
+Requests-round-trip =
+    ((os : List ℕ) (m : RequestV) → Octets os → 4 ≤ length os → readRequest os ≡ Ok m
+    → (os ≡ take 4 os ++ spellRequest m) × (requestFits m ≡ true) × (typeOf (getD os 0 0) ≡ Some (requestType m)))
+    × ((m : RequestV) → requestFits m ≡ true → readRequest (headed (typeCode (requestType m)) (spellRequest m)) ≡ Ok m)
