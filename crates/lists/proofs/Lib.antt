@@ -7,3 +7,4 @@ pub mod Forth
 pub mod Back
 pub mod ListLaws
 pub mod CellLaws
+pub mod PartLaws

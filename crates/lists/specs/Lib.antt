@@ -7,3 +7,4 @@ pub mod Laws
 pub mod Lists
 pub mod Spans
 pub mod CellLists
+pub mod Parts

@@ -16,18 +16,15 @@ use Rattle.elements.specs.Codec.{Codec, Lawful}
 use Rattle.elements.specs.Parts.{keepAlivePeriod, numberOfPages, codingScheme}
 use Rattle.elements.specs.Whole.{headed}
 use Rattle.elements.proofs.Standing.{not-ok}
-use Rattle.elements.proofs.Laws.{lawful-seq, lawful-via, lawful-element}
+use Rattle.elements.proofs.Laws.{lawful-seq, lawful-via}
 use Rattle.elements.proofs.Codings.{channel-lawful}
 use Rattle.elements.proofs.PartLaws.{number-lawful, may-number-lawful, category-lawful, period-lawful, pages-lawful, coding-lawful, keep-alive-lawful}
 use Rattle.elements.proofs.Whole.{Kept, kind-forth, kind-back}
-use Rattle.lists.specs.CellLists.{cellList}
-use Rattle.lists.proofs.CellLaws.{cells-laws}
+use Rattle.lists.specs.Parts.{cells}
+use Rattle.lists.proofs.PartLaws.{cells-lawful}
 use Rattle.pages.specs.Pages.{page}
 use Rattle.pages.proofs.PageLaws.{page-lawful, lawful-repeated}
-use Rattle.requests.specs.Requests.{RequestV, writeReplace, kill, statusQuery, reset, keepAlive, cells, writeElements, writeTo, writeFrom, writing, referenceElements, referenceTo, referenceFrom, reference, readRequestOf, readRequest, requestType, spellRequest, requestFits, Requests-round-trip}
-
-pub cells-lawful : Lawful cells
-cells-lawful = lawful-element 4 cellList cells-laws
+use Rattle.requests.specs.Requests.{RequestV, writeReplace, kill, statusQuery, reset, keepAlive, writeElements, writeTo, writeFrom, writing, referenceElements, referenceTo, referenceFrom, reference, readRequestOf, readRequest, requestType, spellRequest, requestFits, Requests-round-trip}
 
 pub writing-lawful : Lawful writing
 writing-lawful =

@@ -16,10 +16,11 @@ use Rattle.elements.specs.declared.category.Category.{Category}
 use Rattle.elements.specs.declared.faults.Fault.{Fault}
 use Rattle.elements.specs.Faults.{unrecognised}
 use Rattle.elements.specs.Octets.{Octets}
-use Rattle.elements.specs.Codec.{Codec, seq, via, element, channel}
+use Rattle.elements.specs.Codec.{Codec, seq, via, channel}
 use Rattle.elements.specs.Parts.{identifier, newSerial, mayOldSerial, oldSerial, category, repetitionPeriod, broadcastsRequested, numberOfPages, codingScheme, keepAlivePeriod}
 use Rattle.elements.specs.Whole.{readWhole, headed, taken}
-use Rattle.lists.specs.CellLists.{CellsV, cellsMeant, cellList}
+use Rattle.lists.specs.CellLists.{CellsV, cellsMeant}
+use Rattle.lists.specs.Parts.{cells}
 use Rattle.pages.specs.declared.page.Page.{Page}
 use Rattle.pages.specs.Pages.{page, repeated, pagesMeant}
 use Rattle.requests.specs.declared.request.WriteReplace.{WriteReplace}
@@ -54,10 +55,6 @@ pub data RequestV : Type 0 where
   statusQuery : ReferenceV → RequestV
   reset : CellsV → RequestV
   keepAlive : ℕ → RequestV
-
--- Cell List
-abbrev pub cells : Codec CellsV
-cells = element 4 cellList
 
 -- WRITE-REPLACE: Message Identifier, New Serial Number, Old Serial Number if one is replaced, Cell List, Channel Indicator,
 -- Category, Repetition Period, Number of Broadcasts Requested, Number of Pages, Data Coding Scheme, so many Message Contents

@@ -1,0 +1,3 @@
+// The twelve answers and indications of the controller.
+pub mod answer;
+pub mod reading;
