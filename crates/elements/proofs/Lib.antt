@@ -5,3 +5,4 @@ pub mod Fixed
 pub mod Codings
 pub mod Whole
 pub mod PartLaws
+pub mod Progress

@@ -8,3 +8,4 @@ pub mod kinds;
 pub mod laws;
 pub mod list_elements;
 pub mod reading;
+pub mod writing;
