@@ -2,3 +2,4 @@
 pub mod page;
 pub mod pages;
 pub mod reading;
+pub mod writing;
