@@ -8,3 +8,4 @@ pub mod Back
 pub mod ListLaws
 pub mod CellLaws
 pub mod PartLaws
+pub mod Widths

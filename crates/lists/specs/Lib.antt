@@ -8,3 +8,4 @@ pub mod Lists
 pub mod Spans
 pub mod CellLists
 pub mod Parts
+pub mod Measures
