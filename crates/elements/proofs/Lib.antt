@@ -4,3 +4,5 @@ pub mod Laws
 pub mod Fixed
 pub mod Codings
 pub mod Whole
+pub mod PartLaws
+pub mod Progress

@@ -7,6 +7,7 @@ use native.Mathlib.Nat.{add-zero}
 use native.Mathlib.Omega.{arith}
 use lib.ListN.{length, getD, take, drop, set, length-append, take-append-drop}
 use Rattle.std.proofs.shelf.Lists.{set-split, take-at, drop-at, drop-drop, length-take-le, joined-more, map-more, take-append-le, take-take}
+use borrow.Rule.Slice.PartMut.{putMid}
 use Rattle.elements.specs.Octets.{Wrote, put}
 
 pub wrote-one : (os : List ℕ) (at b : ℕ) → at < length os → Wrote (b ∷ []) at os (set os at b) (at + 1)
@@ -49,3 +50,10 @@ wrote-before xs ys at o₁ o₂ o₃ m n h p q =
       octets = q .octets ∙ rw (a, d) (ap (λ (r : List ℕ). take at o₁ ++ r) (sym (append-assoc xs ys rest) ∙ ap (λ (i : ℕ). (xs ++ ys) ++ drop i o₁) s));
       place = p .place ∙ s;
     }
+
+-- octets copied in
+pub wrote-part : (xs : List ℕ) (at k : ℕ) (os ys : List ℕ) → ys ≡ xs → k ≡ length xs → Wrote xs at os (putMid at k os ys) (at + length xs)
+wrote-part xs at k os ys e q = record {
+  octets = ap (λ (zs : List ℕ). putMid at k os zs) e ∙ ap (λ (i : ℕ). putMid at i os xs) q ∙ ap (λ (r : List ℕ). take at os ++ (xs ++ r)) (drop-drop (length xs) at os);
+  place = refl;
+}

@@ -22,3 +22,8 @@ readWhole c os = then (c .read os 4) (ended os)
 -- elements after a header
 abbrev pub headed : ℕ → List ℕ → List ℕ
 headed t xs = t ∷ (three (length xs) ++ xs)
+
+-- what was read, as a case of a larger type
+abbrev pub taken : {V W : Type 0} → (V → W) → Result V Fault → Result W Fault
+taken make (Ok v) = Ok (make v)
+taken make (Err f) = Err f

@@ -1,6 +1,6 @@
 // Faults, from an entry of a list up to the message. A place is an octet's offset in the message, and is kept on the way.
 ghost use mathlib.Core.Path.{_≡_};
-ghost use Rattle.elements.specs.Faults.{layerNumber, missing as missed, outOfRange, toMessage};
+ghost use Rattle.elements.specs.Faults.{layerNumber, missing as missed, outOfRange, toMessage, unrecognised as unrecognisedFault};
 use crate::cause::Cause;
 use crate::cause::CauseDebug;
 use crate::cause::CausePartialEq;
@@ -87,5 +87,16 @@ pub fn missing(place: usize) -> Fault
         cause: Cause::MissingMandatoryElement,
         layer: Layer::Elements,
         place,
+    }
+}
+
+// The type octet is none that is taken.
+pub fn unrecognised() -> Fault
+    ensures { λ r. ⌜ r ≡ unrecognisedFault ⌝ }
+{
+    Fault {
+        cause: Cause::UnrecognisedMessage,
+        layer: Layer::Type,
+        place: 0,
     }
 }

@@ -35,3 +35,13 @@ pub fn put_three(out: &mut [u8], at: usize, value: usize) -> usize
     let next = put_octet(out, next, (value / 256 % 256) as u8);
     put_octet(out, next, (value % 256) as u8)
 }
+
+// Octets as they are.
+pub fn put_octets(out: &mut [u8], at: usize, octets: &[u8]) -> usize
+    requires { ⌜ at + length (now octets) ≤ length (now out) ⌝ }
+    ensures { λ r. ⌜ Wrote (now (octets .entry)) at (now (out .entry)) (now (out .exit)) r ⌝ }
+{
+    let end = at + octets.len();
+    out[at..end].copy_from_slice(octets);
+    end
+}

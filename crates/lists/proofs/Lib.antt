@@ -7,3 +7,5 @@ pub mod Forth
 pub mod Back
 pub mod ListLaws
 pub mod CellLaws
+pub mod PartLaws
+pub mod Widths

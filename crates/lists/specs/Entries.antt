@@ -92,3 +92,8 @@ unflawed (Some i) = false
 -- an entry that a list with the discriminator h can have
 abbrev pub entryFits : Kind → ℕ → Entry → Bool
 entryFits k h e = formed (k .headed) h (formOf (e .cell)) && (k .forms (formOf (e .cell)) && (eqb (length (e .tail)) (k .tail) && unflawed (k .flaw (e .tail))))
+
+-- an entry with as many octets after its identity as its kind says, and none out of range
+pub record Sound (k : Kind) (e : Entry) : Type 0 where
+  pub width : length (e .tail) ≡ k .tail
+  pub unbroken : unflawed (k .flaw (e .tail)) ≡ true

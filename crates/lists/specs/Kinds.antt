@@ -1,4 +1,5 @@
 -- The three kinds of list.
+use mathlib.Core.Path.{_≡_, refl}
 use mathlib.Core.List.{List, [], _∷_, _++_}
 use mathlib.Core.Bool.{Bool, true, false, cond, _||_}
 use Prim.Native.Nat.{ℕ}
@@ -7,6 +8,7 @@ use lib.ListN.{getD}
 use Rattle.std.specs.declared.option.Option.{Option}
 use Rattle.std.specs.declared.option.Option.the-variants.{Some, None}
 use Rattle.elements.specs.declared.cause.Cause.{Cause}
+use Rattle.elements.specs.declared.cause.Cause.the-variants as cause
 use Rattle.elements.specs.Codes.{causeCode, causeOf}
 use Rattle.elements.specs.Octets.{two}
 use Rattle.lists.specs.declared.kinds.CellEntry.{CellEntry}
@@ -14,7 +16,7 @@ use Rattle.lists.specs.declared.kinds.CompletedEntry.{CompletedEntry}
 use Rattle.lists.specs.declared.kinds.FailedEntry.{FailedEntry}
 use Rattle.lists.specs.declared.kinds.Info.{Info}
 use Rattle.lists.specs.declared.kinds.Info.the-variants.{Exact, Overflow, Unknown}
-use Rattle.lists.specs.Entries.{Entry, Kind}
+use Rattle.lists.specs.Entries.{Entry, Kind, Sound, unflawed}
 
 -- Cell List: nothing after the identity
 abbrev pub cellKind : Kind
@@ -55,3 +57,36 @@ failedKind = record {
 
 abbrev pub failedMeant : FailedEntry → Entry
 failedMeant e = record { cell = e .cell; tail = causeCode (e .cause) ∷ [] }
+
+-- every entry of the three kinds is sound
+pub cellSound : (e : CellEntry) → Sound cellKind (cellMeant e)
+cellSound e = record { width = refl; unbroken = refl }
+
+infoKnown : (i : Info) → unflawed (unless 2 (infoOf (infoCode i))) ≡ true
+infoKnown Exact = refl
+infoKnown Overflow = refl
+infoKnown Unknown = refl
+
+pub completedSound : (e : CompletedEntry) → Sound completedKind (completedMeant e)
+completedSound e = record { width = refl; unbroken = infoKnown (e .info) }
+
+causeKnown : (c : Cause) → unflawed (unless 0 (causeOf (causeCode c))) ≡ true
+causeKnown cause.ParameterNotRecognised = refl
+causeKnown cause.ParameterValueInvalid = refl
+causeKnown cause.MessageReferenceNotIdentified = refl
+causeKnown cause.CellIdentityNotValid = refl
+causeKnown cause.UnrecognisedMessage = refl
+causeKnown cause.MissingMandatoryElement = refl
+causeKnown cause.BscCapacityExceeded = refl
+causeKnown cause.CellMemoryExceeded = refl
+causeKnown cause.BscMemoryExceeded = refl
+causeKnown cause.CellBroadcastNotSupported = refl
+causeKnown cause.CellBroadcastNotOperational = refl
+causeKnown cause.IncompatibleDrxParameter = refl
+causeKnown cause.ExtendedChannelNotSupported = refl
+causeKnown cause.MessageReferenceAlreadyUsed = refl
+causeKnown cause.UnspecifiedError = refl
+causeKnown cause.LaiOrLacNotValid = refl
+
+pub failedSound : (e : FailedEntry) → Sound failedKind (failedMeant e)
+failedSound e = record { width = refl; unbroken = causeKnown (e .cause) }

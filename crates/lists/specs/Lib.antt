@@ -7,3 +7,5 @@ pub mod Laws
 pub mod Lists
 pub mod Spans
 pub mod CellLists
+pub mod Parts
+pub mod Measures

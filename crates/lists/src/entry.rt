@@ -7,7 +7,7 @@ ghost use Rattle.std.specs.Vec.{made};
 ghost use Rattle.std.specs.Results.{Cases};
 ghost use Rattle.std.specs.declared.option.Option.the-variants.{Some, None};
 ghost use Rattle.elements.specs.Octets.{Got, Wrote};
-ghost use Rattle.lists.specs.Entries.{Entry, Kind, ownForm, readEntry, spellEntry};
+ghost use Rattle.lists.specs.Entries.{Entry, Kind, Sound, ownForm, readEntry, spellEntry};
 ghost use Rattle.lists.specs.Cells.{formOf};
 use crate::cell::CellIdentity;
 use crate::cell::put_cell;
@@ -27,14 +27,19 @@ pub trait ListEntry: Sized {
 
     ghost meant: { Self → Entry };
 
+    // An entry of the kind has as many octets after its identity as the kind says, and none out of range.
+    ghost sound: { (e : Self) → Sound kind (meant e) };
+
     fn tail_width() -> usize
-        ensures { λ r. ⌜ r ≡ kind .tail ⌝ };
+        ensures value { λ r. ⌜ r ≡ kind .tail ⌝ }
+        ensures small { λ r. ⌜ r ≤ 250 ⌝ };
 
     fn has_heading() -> bool
         ensures { λ r. ⌜ r ≡ kind .headed ⌝ };
 
     fn capacity() -> usize
-        ensures { λ r. ⌜ r ≡ kind .most ⌝ };
+        ensures value { λ r. ⌜ r ≡ kind .most ⌝ }
+        ensures small { λ r. ⌜ r ≤ 255 ⌝ };
 
     // Whether a discriminator may stand in such a list.
     fn takes(form: u8) -> bool

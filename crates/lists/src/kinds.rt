@@ -1,6 +1,6 @@
 // The three kinds of list entries.
 ghost use mathlib.Core.Path.{_≡_};
-ghost use Rattle.lists.specs.Kinds.{cellKind, cellMeant, completedKind, completedMeant, failedKind, failedMeant, infoCode, infoOf};
+ghost use Rattle.lists.specs.Kinds.{cellKind, cellMeant, cellSound, completedKind, completedMeant, completedSound, failedKind, failedMeant, failedSound, infoCode, infoOf};
 use crate::cell::CellIdentity;
 use crate::cell::CellIdentityDebug;
 use crate::cell::CellIdentityPartialEq;
@@ -28,6 +28,8 @@ pub impl ListEntry for CellEntry as CellEntryKind {
     ghost kind = { cellKind };
 
     ghost meant = { cellMeant };
+
+    ghost sound = { cellSound };
 
     fn tail_width() -> usize {
         Self::TAIL
@@ -108,6 +110,8 @@ pub impl ListEntry for CompletedEntry as CompletedEntryKind {
 
     ghost meant = { completedMeant };
 
+    ghost sound = { completedSound };
+
     fn tail_width() -> usize {
         Self::TAIL
     }
@@ -159,6 +163,8 @@ pub impl ListEntry for FailedEntry as FailedEntryKind {
     ghost kind = { failedKind };
 
     ghost meant = { failedMeant };
+
+    ghost sound = { failedSound };
 
     fn tail_width() -> usize {
         Self::TAIL

@@ -7,4 +7,6 @@ pub mod iterate;
 pub mod kinds;
 pub mod laws;
 pub mod list_elements;
+pub mod measuring;
 pub mod reading;
+pub mod writing;

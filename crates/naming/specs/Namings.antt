@@ -1,13 +1,15 @@
 -- What comes of the entries of a Cell List: entries in list order, the cells of an entry in the order of their numbers, each cell at its
 -- first naming only.
+use mathlib.Core.Path.{_≡_}
 use mathlib.Core.Bool.{Bool, true, false, cond}
 use mathlib.Core.List.{List, [], _∷_, _++_, map}
-use Prim.Native.Nat.{ℕ}
-use lib.ListN.{set, replicate}
+use Prim.Native.Nat.{ℕ, _<_}
+use lib.ListN.{length, set, replicate}
 use Rattle.std.specs.Iters.{folded}
+use Rattle.std.specs.shelf.Lists.{All}
 use Rattle.cells.specs.declared.cell.Cell.{Cell}
 use Rattle.lists.specs.declared.cell.CellIdentity.{CellIdentity}
-use Rattle.lists.specs.declared.cell.CellIdentity.the-variants.{All}
+use Rattle.lists.specs.declared.cell.CellIdentity.the-variants as identity
 use Rattle.lists.specs.Entries.{Entry}
 use Rattle.lists.specs.CellLists.{CellsV}
 use Rattle.lists.specs.CellLists.CellsV.{all, named}
@@ -50,5 +52,25 @@ abbrev pub identitiesOf : List Entry → List CellIdentity
 identitiesOf es = map (λ e. e .cell) es
 
 abbrev pub namedBy : CellsV → List CellIdentity
-namedBy all = All ∷ []
+namedBy all = identity.All ∷ []
 namedBy (named es) = identitiesOf es
+
+-- a cell that is there
+abbrev pub IsThere : ℕ → Naming → Type 0
+IsThere n (naming.Cell k) = k < n
+IsThere n (naming.Nobody e) = Unit {0}
+
+-- the cells among what came of a list
+abbrev pub cellsIn : List Naming → List ℕ
+cellsIn [] = []
+cellsIn (naming.Cell k ∷ ns) = k ∷ cellsIn ns
+cellsIn (naming.Nobody e ∷ ns) = cellsIn ns
+
+-- no number stands twice
+abbrev pub Once : List ℕ → Type 0
+Once [] = Unit {0}
+Once (k ∷ ks) = All (λ j. j ≡ k → ⊥) ks × Once ks
+
+-- whatever the cells and the entries: what comes of a list are cells that are there, each once
+abbrev pub Sound : Type 0
+Sound = (cs : List Cell) (es : List CellIdentity) → All (IsThere (length cs)) (namings cs es) × Once (cellsIn (namings cs es))

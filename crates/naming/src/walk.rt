@@ -80,6 +80,7 @@ pub(crate) fn enter_all(
 )
     requires { ⌜ vec-len (now out) + clearMarks (now marks) + length (identitiesOf (listed cellKind cellMeant entries)) ≤ vec-cap (now out) ⌝ }
     ensures entered { λ _. ⌜ stage (now (marks .exit)) (vec-items (now (out .exit))) ≡ folded (entered (now (cells .entry))) (stage (now (marks .entry)) (vec-items (now (out .entry)))) (identitiesOf (listed cellKind cellMeant (entries .entry))) ⌝ }
+    ensures room { λ _. ⌜ vec-len (now (out .exit)) + clearMarks (now (marks .exit)) ≤ vec-len (now (out .entry)) + clearMarks (now (marks .entry)) + length (identitiesOf (listed cellKind cellMeant (entries .entry))) ⌝ }
     ensures reserved { λ _. ⌜ vec-cap (now (out .exit)) ≡ vec-cap (now (out .entry)) ⌝ }
 {
     for given in entries {

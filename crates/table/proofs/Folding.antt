@@ -10,7 +10,8 @@ use Rattle.naming.specs.declared.naming.Naming.{Naming}
 use Rattle.std.proofs.shelf.Lists.{at-drop-more, at-drop-all}
 use Rattle.rows.specs.declared.row.Row.{Row}
 use Rattle.table.specs.declared.outcome.Outcome.{Outcome}
-use Rattle.table.specs.Handling.{IsThere, Stage, stage}
+use Rattle.naming.specs.Namings.{IsThere}
+use Rattle.table.specs.Handling.{Stage, stage}
 
 module _ {X Y : Type 0} (f : Y → X → Y) (s start : Y) (xs : List X) (i : ℕ) (inv : folded f s (drop i xs) ≡ folded f start xs) where
   pub fold-more : (d : X) (t : Y) → i < length xs → t ≡ f s (getD xs i d) → folded f t (drop (i + 1) xs) ≡ folded f start xs

@@ -1,7 +1,7 @@
 -- A request over what a Cell List came to.
 use mathlib.Core.Bool.{Bool}
 use mathlib.Core.List.{List, [], _∷_, _++_}
-use Prim.Native.Nat.{ℕ, _<_}
+use Prim.Native.Nat.{ℕ}
 use lib.ListN.{getD}
 use Rattle.std.specs.Iters.{folded}
 use Rattle.cells.specs.declared.cell.Capability.{Capability}
@@ -17,11 +17,6 @@ use Rattle.table.specs.Settings.{Setting, setting}
 -- the capability of a cell by its number; past the list, none
 abbrev pub capabilityAt : List Cell → ℕ → Capability
 capabilityAt cs k = getD cs k (record { identity = record { lac = 0; ci = 0 }; capability = NoChannel }) .capability
-
--- a cell that is there
-abbrev pub IsThere : ℕ → Naming → Type 0
-IsThere n (naming.Cell k) = k < n
-IsThere n (naming.Nobody e) = Unit {0}
 
 -- the request, the messages of all cells, and what came of it so far
 pub record Stage (R : Type 0) : Type 0 where
