@@ -79,15 +79,15 @@ good-noted m s k l g = go (isClear (s .marks) k) refl
     go false t = record { there = g .there; marked = g .marked; once = g .once }
     go true t =
         record {
-            there = all-push (IsThere m) (s .out) (naming.Cell k) (g .there) l;
-            marked =
-                rw cells-push
-                (all-push (λ j. isClear (set (s .marks) k 1) j ≡ false) (cellsIn (s .out)) k
-                (all-weaker (λ j. isClear (s .marks) j ≡ false) (λ j. isClear (set (s .marks) k 1) j ≡ false) (still-marked (s .marks) k) (cellsIn (s .out)) (g .marked))
-                (now-marked (s .marks) k));
-            once =
-                rw cells-push
-                (once-push (cellsIn (s .out)) k (g .once) (all-weaker (λ j. isClear (s .marks) j ≡ false) (λ j. k ≡ j → ⊥) (new t) (cellsIn (s .out)) (g .marked)))
+          there = all-push (IsThere m) (s .out) (naming.Cell k) (g .there) l;
+          marked =
+              rw cells-push
+              (all-push (λ j. isClear (set (s .marks) k 1) j ≡ false) (cellsIn (s .out)) k
+              (all-weaker (λ j. isClear (s .marks) j ≡ false) (λ j. isClear (set (s .marks) k 1) j ≡ false) (still-marked (s .marks) k) (cellsIn (s .out)) (g .marked))
+              (now-marked (s .marks) k));
+          once =
+              rw cells-push
+              (once-push (cellsIn (s .out)) k (g .once) (all-weaker (λ j. isClear (s .marks) j ≡ false) (λ j. k ≡ j → ⊥) (new t) (cellsIn (s .out)) (g .marked)));
         }
 
 good-names : (m : ℕ) (ks : List ℕ) (s : Stage) → All (λ k. k < m) ks → Good m s → Good m (folded noted s ks)
@@ -101,9 +101,9 @@ good-entered cs s e g = go (isSome (names cs e))
     go true = good-names (length cs) (names cs e) s (names-there e 0 (length cs) cs (omega arith)) g
     go false =
         record {
-            there = all-push (IsThere (length cs)) (s .out) (naming.Nobody e) (g .there) tt;
-            marked = rw cells-same (g .marked);
-            once = rw cells-same (g .once)
+          there = all-push (IsThere (length cs)) (s .out) (naming.Nobody e) (g .there) tt;
+          marked = rw cells-same (g .marked);
+          once = rw cells-same (g .once);
         }
 
 good-all : (cs : List Cell) (es : List CellIdentity) (s : Stage) → Good (length cs) s → Good (length cs) (folded (entered cs) s es)

@@ -50,5 +50,4 @@ pub fn name_cells(cells: &[Cell], list: Cells<'_>, octets: &mut [u8], out: &mut 
 // Whatever a list is: the cells that come of it are there, and no cell comes twice.
 pub fn namings_are_sound()
     ensures { λ _. ⌜ Sound ⌝ }
-{
-}
+{}

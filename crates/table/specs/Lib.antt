@@ -4,3 +4,4 @@ pub mod Settings
 pub mod References
 pub mod Write
 pub mod Handling
+pub mod Storing

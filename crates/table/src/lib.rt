@@ -6,4 +6,5 @@ pub mod outcome;
 mod pool;
 pub mod references;
 pub mod request;
+pub mod storing;
 pub mod write;

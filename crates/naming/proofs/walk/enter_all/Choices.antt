@@ -16,5 +16,5 @@ Inv-loop-given l =
     × (folded (entered (l .cells)) (stage (l .marks) (vec-items (l .out))) (identitiesOf (listed cellKind cellMeant (l .given-iterator)))
     ≡ folded (entered (l .cells)) (stage (l .entry .marks) (vec-items (l .entry .out))) (identitiesOf (listed cellKind cellMeant (l .entry .given-iterator))))
     × (vec-len (l .out) + clearMarks (l .marks) + length (identitiesOf (listed cellKind cellMeant (l .given-iterator)))
-        ≤ vec-len (l .entry .out) + clearMarks (l .entry .marks) + length (identitiesOf (listed cellKind cellMeant (l .entry .given-iterator))))
+    ≤ vec-len (l .entry .out) + clearMarks (l .entry .marks) + length (identitiesOf (listed cellKind cellMeant (l .entry .given-iterator))))
     × (vec-cap (l .out) ≡ vec-cap (l .entry .out))
