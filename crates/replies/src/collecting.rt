@@ -9,7 +9,11 @@ use cells::cell::Cell;
 use table::outcome::Outcome;
 
 // The entries of a list, in the order of the outcomes.
-pub fn collect<E: OutcomeEntry + Drop>(cells: &[Cell], outcomes: &[Outcome], out: &mut Vec<E>)
+pub(crate) fn collect<E: OutcomeEntry + Drop>(
+    cells: &[Cell],
+    outcomes: &[Outcome],
+    out: &mut Vec<E>,
+)
     requires { ⌜ length (now outcomes) ≤ vec-cap (now out) ⌝ }
     ensures items { λ _. ⌜ vec-items (now (out .exit)) ≡ picked (E·OutcomeEntry .entry (now (cells .entry))) (now (outcomes .entry)) ⌝ }
     ensures reserved { λ _. ⌜ vec-cap (now (out .exit)) ≡ vec-cap (now (out .entry)) ⌝ }

@@ -1,3 +1,4 @@
 // The lists of a reply, from what came of a request.
-pub mod collecting;
-pub mod entries;
+mod collecting;
+mod entries;
+pub mod work;

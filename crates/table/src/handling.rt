@@ -58,6 +58,7 @@ pub fn handle<R: CellRequest, S: Site>(
     requires there { ⌜ All (IsThere (length (now rows))) (now namings) ⌝ }
     requires room { ⌜ vec-len (now out) + length (now namings) ≤ vec-cap (now out) ⌝ }
     ensures handled { λ _. ⌜ stage (now (request .exit)) (map rowsOf (now (rows .exit))) (vec-items (now (out .exit))) ≡ handled (R·CellRequest .answer) (R·CellRequest .leaves) (R·CellRequest .becomes) (now (cells .entry)) (S·Site .model (now (site .entry)) .opened) (stage (now (request .entry)) (map rowsOf (now (rows .entry))) (vec-items (now (out .entry)))) (now (namings .entry)) ⌝ }
+    ensures len { λ _. ⌜ vec-len (now (out .exit)) ≡ vec-len (now (out .entry)) + length (now (namings .entry)) ⌝ }
     ensures reserved { λ _. ⌜ vec-cap (now (out .exit)) ≡ vec-cap (now (out .entry)) ⌝ }
 {
     for naming in namings {

@@ -37,5 +37,6 @@ returns g c =
       handled =
           fold-end f (stage (c .loop-naming .request) (map rowsOf (c .loop-naming .rows)) (vec-items (c .loop-naming .out))) _ (c .args .namings .now)
           (c .loop-naming .naming-index) (c .loop-naming .inv .0) (c .loop-naming-test .left);
+      len = omega (arith, c .loop-naming .inv .1, c .loop-naming-test .left);
       reserved = c .loop-naming .inv .2;
     }
