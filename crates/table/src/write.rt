@@ -1,4 +1,5 @@
 // WRITE-REPLACE in one cell.
+pub use self::step::WriteRequest;
 use crate::asked::Asked;
 
 mod parts;
