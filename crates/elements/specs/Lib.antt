@@ -5,3 +5,4 @@ pub mod Elements
 pub mod Codec
 pub mod Parts
 pub mod Whole
+pub mod Serials

@@ -9,3 +9,4 @@ pub mod octets;
 pub mod parts;
 pub mod reading;
 pub mod recovery;
+pub mod serial;

@@ -2,5 +2,6 @@
 pub mod measuring;
 pub mod page;
 pub mod pages;
+pub mod parameter;
 pub mod reading;
 pub mod writing;
