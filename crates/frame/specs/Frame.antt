@@ -17,7 +17,7 @@ use Rattle.site.specs.Cells.{within, openAt, countAt}
 use Rattle.site.specs.Events.{Event}
 use Rattle.site.specs.Events.Event.{switched, started, offered}
 use Rattle.frame.specs.declared.frame_site.FrameSite.{FrameSite}
-use Rattle.frame.specs.Record.{put, recordOctets, recordLength}
+use Rattle.frame.specs.Record.{put, recordOctets}
 
 -- the memory of sixteen broadcasts with fifteen pages each
 abbrev pub memoryCheck : ℕ → Result (Unit {0}) Refusal
@@ -38,20 +38,24 @@ frameSound s = record {
   roomy = omega arith;
 }
 
--- the octets used in the period
-abbrev pub usedAfter : ℕ → Event → ℕ
-usedAfter used (switched k b) = used
-usedAfter used started = 0
-usedAfter used (offered k h m r) = cond r (used + recordLength m) used
+-- x where a memory of that size holds a period's broadcasts, else y
+abbrev pub ifLarge : {A : Type 0} → ℕ → A → A → A
+ifLarge size x y = cond (ltb size 21152) y x
 
--- a broadcast that is done is written behind those before it, if the memory is large enough; nothing else writes
+-- how many octets of the memory are used once the call is done
+abbrev pub usedAfter : ℕ → ℕ → Event → ℕ
+usedAfter size used (switched k b) = used
+usedAfter size used started = 0
+usedAfter size used (offered k h m r) = cond r (ifLarge size (used + length (recordOctets k h m)) used) used
+
+-- a broadcast that is done is written behind those before it, if the memory is large enough; nothing else is written
 abbrev pub memoryAfter : ℕ → Event → List ℕ → List ℕ
 memoryAfter used (switched k b) memory = memory
 memoryAfter used started memory = memory
-memoryAfter used (offered k h m r) memory = cond r (cond (ltb (length memory) 21152) memory (put used (recordOctets k h m) memory)) memory
+memoryAfter used (offered k h m r) memory = cond r (ifLarge (length memory) (put used (recordOctets k h m) memory) memory) memory
 
 -- how a call moves a frame site beside its meaning; the memory is the lender's all along
 pub record Steps (s : FrameSite) (e : Event) (t : FrameSite) : Type 0 where
   pub lender : name (t .memory) ≡ name (s .memory)
-  pub used : t .cursor .used ≡ usedAfter (s .cursor .used) e
+  pub used : t .cursor .used ≡ usedAfter (length (s .memory .now)) (s .cursor .used) e
   pub memory : t .memory .now ≡ memoryAfter (s .cursor .used) e (s .memory .now)

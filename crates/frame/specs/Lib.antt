@@ -1,2 +1,3 @@
 pub mod Record
 pub mod Frame
+pub mod Frames

@@ -9,7 +9,6 @@ ghost use Rattle.frame.specs.Frame.{frameModel, frameSound, Steps, memoryCheck
 use crate::cursor::CAPACITY;
 use crate::cursor::Cursor;
 use crate::cursor::MEMORY;
-use crate::record::record_length;
 use crate::record::write_record;
 use cbsp::channel::Channel;
 use cbsp::refusal::Refusal;
@@ -89,10 +88,11 @@ pub impl Site for FrameSite<'_> as FrameSiteImpl {
             return false;
         }
         let at = self.cursor.used();
-        self.cursor.advance(record_length(message));
+        let mut octets = 0;
         if self.memory.len() >= MEMORY {
-            write_record(self.memory, at, cell as u8, channel, message);
+            octets = write_record(self.memory, at, cell as u8, channel, message);
         }
+        self.cursor.advance(octets);
         true
     }
 }

@@ -1,0 +1,40 @@
+-- A period over a frame site, from its calls to its memory.
+use mathlib.Core.Path.{_≡_, refl, ap, _∙_}
+use mathlib.Core.Bool.{Bool}
+use mathlib.Core.List.{List, [], _∷_}
+use Prim.Native.Nat.{ℕ}
+use denote.Ref.{name}
+use lib.ListN.{length}
+use Rattle.site.specs.Events.{Event, Goes}
+use Rattle.frame.specs.declared.frame_site.FrameSite.{FrameSite}
+use Rattle.frame.specs.Record.{put}
+use Rattle.frame.specs.Frame.{frameModel, Steps, ifLarge}
+use Rattle.frame.specs.Frames.{WithinPeriod, framesOf, Written}
+use Rattle.frame.proofs.Packing.{packs}
+use Rattle.airtime.specs.declared.period.Offer.{Offer}
+use Rattle.airtime.specs.Period.{events, Period}
+use Rattle.airtime.specs.Frames.{Framed}
+
+only-offers : (os : List Offer) (rs : List Bool) → WithinPeriod (events os rs)
+unfolding WithinPeriod events
+only-offers [] rs = tt
+only-offers (o ∷ os) [] = tt
+only-offers (o ∷ os) (r ∷ rs) = only-offers os rs
+
+module _ (s t : FrameSite) (os : List Offer) (n : ℕ) (p : Period (Goes frameModel Steps) s os n t) where
+  w : Written (p .begun) (events os (p .offers .answers)) t
+  w = packs (p .begun) t (events os (p .offers .answers)) (only-offers os (p .offers .answers)) (p .offers .chain)
+
+  pub same-lender : name (t .memory) ≡ name (s .memory)
+  same-lender = w .lender ∙ p .start .itself .lender
+
+  pub framed : Framed os n (s .memory .now) (t .memory .now)
+  framed =
+      let frames = framesOf (events os (p .offers .answers)) in
+      let i = p .start .itself in
+      record {
+        answers = p .offers .answers;
+        each = p .offers .each;
+        done = p .offers .done;
+        memory = w .memory ∙ ap (λ (k : ℕ). ifLarge (length (p .begun .memory .now)) (put k frames (p .begun .memory .now)) (p .begun .memory .now)) (i .used) ∙ ap (λ (xs : List ℕ). ifLarge (length xs) (put 0 frames xs) xs) (i .memory);
+      }

@@ -1,0 +1,39 @@
+// A period over any site.
+ghost use mathlib.Core.Path.{_≡_};
+ghost use mathlib.Core.List.{List, [], _∷_};
+ghost use lib.ListN.{length};
+ghost use Rattle.site.specs.Events.{Event, Goes, Chain};
+ghost use Rattle.site.specs.Events.Event.{started, offered};
+ghost use Rattle.airtime.specs.Period.{Offers, Period};
+use cbsp::channel::Channel;
+use site::Site;
+use site::message::CbsMessage;
+
+// A message that is offered on a channel of a cell.
+#[derive(Clone, Copy)]
+pub struct Offer<'a> {
+    pub cell: usize,
+    pub channel: Channel,
+    pub message: CbsMessage<'a>,
+}
+
+// Makes offers in their order; answers how many broadcasts were done.
+fn offer_all<S: Site>(site: &mut S, offers: &[Offer<'_>]) -> usize
+    ensures { λ r. ⌜ Offers (Goes (S·Site .model) (S·Site .steps)) (now (site .entry)) (now (offers .entry)) r (now (site .exit)) ⌝ }
+{
+    let mut done = 0;
+    for offer in offers {
+        if site.broadcast(offer.cell, offer.channel, offer.message) {
+            done += 1;
+        }
+    }
+    done
+}
+
+// Starts a period and makes the offers.
+pub fn air<S: Site>(site: &mut S, offers: &[Offer<'_>]) -> usize
+    ensures { λ r. ⌜ Period (Goes (S·Site .model) (S·Site .steps)) (now (site .entry)) (now (offers .entry)) r (now (site .exit)) ⌝ }
+{
+    site.start_period();
+    offer_all(site, offers)
+}

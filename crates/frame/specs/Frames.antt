@@ -1,0 +1,35 @@
+-- The memory of a frame site over the calls of one period.
+use mathlib.Core.Path.{_≡_}
+use mathlib.Core.Bool.{Bool, true, false, cond}
+use mathlib.Core.List.{List, [], _∷_, _++_}
+use Prim.Native.Nat.{ℕ}
+use lib.ListN.{length}
+use denote.Ref.{name}
+use Rattle.site.specs.Events.{Event, Goes, Chain}
+use Rattle.site.specs.Events.Event.{switched, started, offered}
+use Rattle.frame.specs.declared.frame_site.FrameSite.{FrameSite}
+use Rattle.frame.specs.Record.{put, recordOctets}
+use Rattle.frame.specs.Frame.{frameModel, Steps, ifLarge}
+
+-- no period starts in these calls
+unfoldable pub WithinPeriod : List Event → Type 0
+WithinPeriod [] = Unit {0}
+WithinPeriod (switched k b ∷ es) = WithinPeriod es
+WithinPeriod (started ∷ es) = ⊥
+WithinPeriod (offered k h m r ∷ es) = WithinPeriod es
+
+-- the octets of the broadcasts that were done, one behind the other
+unfoldable pub framesOf : List Event → List ℕ
+framesOf [] = []
+framesOf (switched k b ∷ es) = framesOf es
+framesOf (started ∷ es) = framesOf es
+framesOf (offered k h m r ∷ es) = cond r (recordOctets k h m) [] ++ framesOf es
+
+-- from s to t those octets were written behind what was used, and nothing else
+pub record Written (s : FrameSite) (es : List Event) (t : FrameSite) : Type 0 where
+  pub lender : name (t .memory) ≡ name (s .memory)
+  pub memory : t .memory .now ≡ ifLarge (length (s .memory .now)) (put (s .cursor .used) (framesOf es) (s .memory .now)) (s .memory .now)
+
+-- the calls of one period write their broadcasts one behind the other
+abbrev pub Packs : Type 0
+Packs = (s t : FrameSite) (es : List Event) → WithinPeriod es → Chain (Goes frameModel Steps) s es t → Written s es t
