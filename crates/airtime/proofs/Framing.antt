@@ -25,16 +25,13 @@ module _ (s t : FrameSite) (os : List Offer) (n : ℕ) (p : Period (Goes frameMo
   w : Written (p .begun) (events os (p .offers .answers)) t
   w = packs (p .begun) t (events os (p .offers .answers)) (only-offers os (p .offers .answers)) (p .offers .chain)
 
-  pub same-lender : name (t .memory) ≡ name (s .memory)
-  same-lender = w .lender ∙ p .start .itself .lender
-
-  pub framed : Framed os n (s .memory .now) (t .memory .now)
+  pub framed : Framed s os n t
   framed =
       let frames = framesOf (events os (p .offers .answers)) in
       let i = p .start .itself in
+      let here = p .begun .memory .now in
       record {
-        answers = p .offers .answers;
-        each = p .offers .each;
-        done = p .offers .done;
-        memory = w .memory ∙ ap (λ (k : ℕ). ifLarge (length (p .begun .memory .now)) (put k frames (p .begun .memory .now)) (p .begun .memory .now)) (i .used) ∙ ap (λ (xs : List ℕ). ifLarge (length xs) (put 0 frames xs) xs) (i .memory);
+        period = p;
+        lender = w .lender ∙ i .lender;
+        memory = w .memory ∙ ap (λ (k : ℕ). ifLarge (length here) (put k frames here) here) (i .used) ∙ ap (λ (xs : List ℕ). ifLarge (length xs) (put 0 frames xs) xs) (i .memory);
       }

@@ -1,18 +1,29 @@
 -- What a period leaves in the memory of a frame site.
 use mathlib.Core.Path.{_≡_}
-use mathlib.Core.Bool.{Bool}
 use mathlib.Core.List.{List}
 use Prim.Native.Nat.{ℕ}
+use denote.Ref.{name}
 use lib.ListN.{length}
+use Rattle.site.specs.Model.{New}
+use Rattle.site.specs.Events.{Goes}
+use Rattle.frame.specs.declared.frame_site.FrameSite.{FrameSite}
 use Rattle.frame.specs.Record.{put}
-use Rattle.frame.specs.Frame.{ifLarge}
+use Rattle.frame.specs.Frame.{frameModel, Steps, ifLarge}
 use Rattle.frame.specs.Frames.{framesOf}
 use Rattle.airtime.specs.declared.period.Offer.{Offer}
-use Rattle.airtime.specs.Period.{events, doneOf}
+use Rattle.airtime.specs.Period.{events, Period}
 
--- each offer had an answer, n broadcasts were done, and these stand from the first octet on, one behind the other; other octets stay
-pub record Framed (os : List Offer) (n : ℕ) (before after : List ℕ) : Type 0 where
-  pub answers : List Bool
-  pub each : length answers ≡ length os
-  pub done : n ≡ doneOf answers
-  pub memory : after ≡ ifLarge (length before) (put 0 (framesOf (events os answers)) before) before
+-- the broadcasts that the period did stand from the first octet on, one behind the other; all other octets stay
+pub record Framed (s : FrameSite) (os : List Offer) (n : ℕ) (t : FrameSite) : Type 0 where
+  pub period : Period (Goes frameModel Steps) s os n t
+  pub lender : name (t .memory) ≡ name (s .memory)
+  pub memory : t .memory .now ≡ ifLarge (length (s .memory .now)) (put 0 (framesOf (events os (period .offers .answers))) (s .memory .now)) (s .memory .now)
+
+-- the same of a new site on lent memory
+pub record FirstFramed (os : List Offer) (n : ℕ) (before after : List ℕ) : Type 0 where
+  pub site : FrameSite
+  pub fresh : New (frameModel site)
+  pub lent : site .memory .now ≡ before
+  pub last : FrameSite
+  pub framed : Framed site os n last
+  pub left : after ≡ last .memory .now

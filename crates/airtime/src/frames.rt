@@ -1,8 +1,5 @@
 // A period over a frame site, and what its memory then holds.
-ghost use mathlib.Core.Path.{_≡_};
-ghost use mathlib.Core.List.{List};
-ghost use denote.Ref.{name};
-ghost use Rattle.airtime.specs.Frames.{Framed};
+ghost use Rattle.airtime.specs.Frames.{Framed, FirstFramed};
 use crate::period::Offer;
 use crate::period::air;
 use frame::frame_site::FrameSite;
@@ -10,15 +7,14 @@ use frame::frame_site::FrameSiteImpl;
 
 // One period; the memory begins with the broadcasts that were done, and stays as it was behind them.
 pub fn air_frames(site: &mut FrameSite<'_>, offers: &[Offer<'_>]) -> usize
-    ensures lender { λ _. ⌜ name (now (site .exit) .memory) ≡ name (now (site .entry) .memory) ⌝ }
-    ensures framed { λ r. ⌜ Framed (now (offers .entry)) r (now (now (site .entry) .memory)) (now (now (site .exit) .memory)) ⌝ }
+    ensures { λ r. ⌜ Framed (now (site .entry)) (now (offers .entry)) r (now (site .exit)) ⌝ }
 {
     air(site, offers)
 }
 
 // The first period of a site on that memory.
 pub fn first_frames(memory: &mut [u8], offers: &[Offer<'_>]) -> usize
-    ensures { λ r. ⌜ Framed (now (offers .entry)) r (now (memory .entry)) (now (memory .exit)) ⌝ }
+    ensures { λ r. ⌜ FirstFramed (now (offers .entry)) r (now (memory .entry)) (now (memory .exit)) ⌝ }
 {
     let mut site = FrameSite::new(memory);
     air_frames(&mut site, offers)
