@@ -1,7 +1,7 @@
 // Lines for a reader.
 use cbsp::channel::Channel;
 use site::Site;
-use site::cells::CELLS;
+use site::cell_states::CELLS;
 use std::error::AnyError;
 
 // The cells of a site that broadcast something or are closed.

@@ -3,17 +3,15 @@ use mathlib.Core.Path.{_≡_}
 use mathlib.Core.Bool.{Bool, true, false, cond}
 use mathlib.Core.List.{List}
 use Prim.Native.Nat.{ℕ, _+_}
-use lib.Dec.{ltb}
+use lib.Dec.{ltb, lit≤}
 use lib.ListN.{length}
 use denote.Ref.{name}
-use native.Mathlib.Omega.{arith}
-use borrow.Author.Tests.{le-ltb}
 use Rattle.std.specs.declared.result.Result.{Result}
 use Rattle.std.specs.declared.result.Result.the-variants.{Ok, Err}
 use Rattle.cbsp.specs.declared.refusal.Refusal.{Refusal}
 use Rattle.cbsp.specs.declared.refusal.Refusal.the-variants.{FrameMemoryTooSmall}
-use Rattle.site.specs.Model.{Model, Past, Sound}
-use Rattle.site.specs.Cells.{within, openAt, countAt}
+use Rattle.site.specs.Model.{Model, Sound}
+use Rattle.site.specs.CellStates.{cellsModel, cellsSound}
 use Rattle.site.specs.Events.{Event}
 use Rattle.site.specs.Events.Event.{switched, started, offered}
 use Rattle.frame.specs.declared.frame_site.FrameSite.{FrameSite}
@@ -25,18 +23,10 @@ memoryCheck octets = cond (ltb octets 21152) (Err FrameMemoryTooSmall) (Ok tt)
 
 -- one room for all cells
 abbrev pub frameModel : FrameSite → Model
-frameModel s = record {
-  capacity = 16;
-  opened = openAt (s .cells);
-  room = λ k. within k (s .cursor .left) 0;
-  count = countAt (s .cells);
-}
+frameModel s = cellsModel 16 (s .cells) (λ k. s .cursor .left)
 
 pub frameSound : (s : FrameSite) → Sound (frameModel s)
-frameSound s = record {
-  past = λ k le. let e = le-ltb k 64 le in record { opened = rw e; room = rw e; count = λ h. rw e };
-  roomy = omega arith;
-}
+frameSound s = cellsSound 16 (s .cells) (λ k. s .cursor .left) (lit≤ tt)
 
 -- x where a memory of that size holds a period's broadcasts, else y
 abbrev pub ifLarge : {A : Type 0} → ℕ → A → A → A

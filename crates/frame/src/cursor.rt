@@ -1,17 +1,19 @@
 // How far a period has come: the room that is left to all cells, and the octets of memory that are used.
 ghost use mathlib.Core.Path.{_≡_};
 ghost use Prim.Native.Nat.{ℕ, _+_, _*_, _-_, _<_, _≤_};
+use site::message::MOST_PAGES;
+use site::message::PAGE;
 
 // The broadcasts of a period, over all cells.
 pub const CAPACITY: u16 = 16;
 
 // The octets of the longest broadcast: cell, channel and fifteen pages.
-pub const LONGEST: usize = 1322;
+pub const LONGEST: usize = 2 + MOST_PAGES * PAGE;
 
-// The octets of a period's longest broadcasts.
-pub const MEMORY: usize = 21152;
+// The octets of a period of such broadcasts.
+pub const MEMORY: usize = 16 * LONGEST;
 
-// Whatever is still sent in the period fits behind the octets that are used.
+// Whatever is still broadcast in the period fits behind the octets that are used.
 #[derive(Clone, Copy)]
 pub struct Cursor {
     left: u16,

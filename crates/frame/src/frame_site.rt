@@ -13,13 +13,13 @@ use crate::record::write_record;
 use cbsp::channel::Channel;
 use cbsp::refusal::Refusal;
 use site::Site;
-use site::cells::CELLS;
-use site::cells::Cells;
+use site::cell_states::CELLS;
+use site::cell_states::CellStates;
 use site::message::CbsMessage;
 
 #[derive(Drop)]
 pub struct FrameSite<'a> {
-    cells: Cells,
+    cells: CellStates,
     cursor: Cursor,
     memory: &'a mut [u8],
 }
@@ -41,7 +41,7 @@ impl<'a> FrameSite<'a> {
         ensures memory { λ r. ⌜ now (r .memory) ≡ now (memory .entry) ⌝ }
     {
         FrameSite {
-            cells: Cells::new(),
+            cells: CellStates::new(),
             cursor: Cursor::new(),
             memory,
         }

@@ -1,5 +1,5 @@
 pub mod Model
-pub mod Cells
+pub mod CellStates
 pub mod Messages
 pub mod Pages
 pub mod Events

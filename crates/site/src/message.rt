@@ -8,16 +8,16 @@ ghost use Rattle.site.specs.Pages.{highOctet, lowOctet, packed, pageParameter,
 // The octets of a page on the air.
 pub const PAGE: usize = 88;
 
-// The octets of a page's content.
+// The octets of a page's content, behind six octets of heading.
 pub const CONTENT: usize = 82;
 
 // The most pages that a message has on the air: page numbers have four bits.
 pub const MOST_PAGES: usize = 15;
 
-// The content of one page, user information and padding as the centre sent them.
+// The content of one page: user information and the padding behind it, as the centre sent them.
 #[derive(Clone, Copy)]
 pub struct Page {
-    pub content: [u8; 82],
+    pub content: [u8; CONTENT],
 }
 
 // What goes out in a broadcast: what every page repeats, and the contents of the pages in order.
@@ -65,7 +65,7 @@ pub fn pages_on_air(message: CbsMessage<'_>) -> usize
 }
 
 // The octets of a page with that number.
-pub fn page_octets(message: CbsMessage<'_>, number: u8, page: &Page) -> [u8; 88]
+pub fn page_octets(message: CbsMessage<'_>, number: u8, page: &Page) -> [u8; PAGE]
     ensures { λ r. ⌜ r ≡ pageOctets (aired (message .entry)) number (now (page .entry)) ⌝ }
 {
     let mut octets = [0; PAGE];
@@ -75,6 +75,6 @@ pub fn page_octets(message: CbsMessage<'_>, number: u8, page: &Page) -> [u8; 88]
     octets[3] = low(message.identifier);
     octets[4] = message.coding;
     octets[5] = page_parameter(number, pages_on_air(message) as u8);
-    octets[6..88].copy_from_slice(&page.content);
+    octets[6..PAGE].copy_from_slice(&page.content);
     octets
 }
