@@ -1,16 +1,12 @@
 // Runs a period over each kind of site and shows what it did: the counts, and the frame memory line by line.
-mod frames;
-mod period;
 mod report;
 
 use cbsp::channel::Channel;
 use frame::frame_site::FrameSite;
 use frame::frame_site::FrameSiteImpl;
 use frame::frame_site::check_memory;
-use frames::air_frames;
-use frames::first_frames;
-use period::Offer;
-use period::air;
+use frame::period::air_frames;
+use frame::period::first_frames;
 use report::report;
 use report::show_frames;
 use site::Site;
@@ -18,10 +14,13 @@ use site::drill::DrillSite;
 use site::drill::DrillSiteImpl;
 use site::message::CbsMessage;
 use site::message::Page;
+use site::period::Offer;
+use site::period::air;
+use std::alloc::AllocError;
 use std::alloc::Global;
 use std::error::AnyError;
 
-// A page of text in octets, filled up with zeros.
+// A page of text, filled up with zeros.
 fn text_page(text: &[u8]) -> Page {
     let mut content = [0; 82];
     let used = text.len().min(82);
@@ -30,11 +29,11 @@ fn text_page(text: &[u8]) -> Page {
 }
 
 // Both messages in each of ten cells, cell by cell.
-fn offers<'a>(
+fn all_offers<'a>(
     heap: Global,
     road: CbsMessage<'a>,
     water: CbsMessage<'a>,
-) -> Result<Vec<Offer<'a>>, AnyError> {
+) -> Result<Vec<Offer<'a>>, AllocError> {
     let mut offers = Vec::new(heap);
     for cell in 0..10 {
         offers.push(Offer {
@@ -56,7 +55,19 @@ fn drill(rt: &LibcRuntime, offers: &[Offer<'_>]) -> Result<(), AnyError> {
     let mut site = DrillSite::new();
     site.close(2);
     let done = air(&mut site, offers);
-    report(rt, "drill site", &site, offers.len(), done)
+    println!(rt, "drill site, broadcasts done: {done}")?;
+    report(rt, &site, 10)
+}
+
+// What the first call on a frame memory answers.
+fn check(rt: &LibcRuntime, memory: &[u8]) -> Result<(), AnyError> {
+    let number = match check_memory(memory) {
+        Ok(()) => 0,
+        Err(refusal) => refusal.number(),
+    };
+    let octets = memory.len();
+    println!(rt, "frame memory of {octets} octets, refusal: {number}")?;
+    Ok(())
 }
 
 // A period of a new frame site with one cell closed.
@@ -65,21 +76,28 @@ fn frame(rt: &LibcRuntime, memory: &mut [u8], offers: &[Offer<'_>]) -> Result<us
     let mut site = FrameSite::new(memory);
     site.close(2);
     let done = air_frames(&mut site, offers);
-    report(rt, "frame site", &site, offers.len(), done)?;
+    println!(rt, "frame site, broadcasts done: {done}")?;
+    report(rt, &site, 10)?;
     Ok(done)
 }
 
-// What the first call on a frame memory answers.
-fn check(rt: &LibcRuntime, memory: &[u8]) -> Result<(), AnyError> {
-    let octets = memory.len();
-    match check_memory(memory) {
-        Ok(()) => println!(rt, "frame memory of {octets} octets: accepted")?,
-        Err(refusal) => {
-            let number = refusal.number();
-            println!(rt, "frame memory of {octets} octets: refused with {number}")?;
-        }
-    }
-    Ok(())
+// A frame memory through three sites: a whole period; one broadcast in front of what stays behind it;
+// and, with an octet taken away, a period that is counted and not written.
+fn frames(
+    rt: &LibcRuntime,
+    heap: Global,
+    offers: &[Offer<'_>],
+    once: &[Offer<'_>],
+) -> Result<(), AnyError> {
+    let mut memory = vec![in heap; 0u8; 21152]?;
+    let done = frame(rt, memory.as_mut_slice(), offers)?;
+    show_frames(rt, memory.as_slice(), done)?;
+    let again = first_frames(memory.as_mut_slice(), once);
+    println!(rt, "another frame site, broadcasts done: {again}")?;
+    show_frames(rt, memory.as_slice(), 3)?;
+    memory.truncate(21151);
+    frame(rt, memory.as_mut_slice(), offers)?;
+    show_frames(rt, memory.as_slice(), 3)
 }
 
 fn main(rt: LibcRuntime) -> Result<(), AnyError> {
@@ -101,23 +119,12 @@ fn main(rt: LibcRuntime) -> Result<(), AnyError> {
         coding: 0x44,
         pages: &water_pages,
     };
-    let offers = offers(rt.alloc(), road, water)?;
-    drill(&rt, offers.as_slice())?;
-    let mut memory = vec![in rt.alloc(); 0u8; 21152]?;
-    let done = frame(&rt, memory.as_mut_slice(), offers.as_slice())?;
-    show_frames(&rt, memory.as_slice(), done)?;
-    // a second site on the same memory: its broadcast stands in front, what lies behind it stays
+    let offers = all_offers(rt.alloc(), road, water)?;
     let once = [Offer {
         cell: 9,
         channel: Channel::Basic,
         message: road,
     }];
-    let again = first_frames(memory.as_mut_slice(), &once);
-    println!(rt, "another frame site: {again} of 1 offers done")?;
-    show_frames(&rt, memory.as_slice(), 3)?;
-    // one octet too few: counted, not written
-    memory.truncate(21151);
-    let counted = frame(&rt, memory.as_mut_slice(), offers.as_slice())?;
-    println!(rt, "{counted} done, nothing written")?;
-    show_frames(&rt, memory.as_slice(), 1)
+    drill(&rt, offers.as_slice())?;
+    frames(&rt, rt.alloc(), offers.as_slice(), &once)
 }

@@ -1,55 +1,53 @@
 // Lines for a reader.
 use cbsp::channel::Channel;
 use site::Site;
-use site::cell_states::CELLS;
+use site::message::PAGE;
 use std::error::AnyError;
 
-// The cells of a site that broadcast something or are closed.
-pub fn report<S: Site>(
-    rt: &LibcRuntime,
-    name: &str,
-    site: &S,
-    offers: usize,
-    done: usize,
-) -> Result<(), AnyError> {
-    let capacity = site.capacity();
-    println!(
-        rt,
-        "{name}, capacity {capacity}: {done} of {offers} offers done"
-    )?;
-    for cell in 0..CELLS {
-        let basic = site.count(cell, Channel::Basic);
-        let extended = site.count(cell, Channel::Extended);
-        let open = site.is_open(cell);
-        if basic > 0 || extended > 0 || !open {
-            let state = if open { "open" } else { "closed" };
-            let room = site.room(cell);
-            println!(
-                rt,
-                "  cell {cell} {state}, room {room}, basic {basic}, extended {extended}"
-            )?;
-        }
+// One cell of a site.
+fn report_cell<S: Site>(rt: &LibcRuntime, site: &S, cell: usize) -> Result<(), AnyError> {
+    let state = if site.is_open(cell) { "open" } else { "closed" };
+    let room = site.room(cell);
+    print!(rt, "  cell {cell} {state}, room {room}")?;
+    let basic = site.count(cell, Channel::Basic);
+    let extended = site.count(cell, Channel::Extended);
+    println!(rt, ", basic {basic}, extended {extended}")?;
+    Ok(())
+}
+
+// The first cells of a site.
+pub fn report<S: Site>(rt: &LibcRuntime, site: &S, cells: usize) -> Result<(), AnyError> {
+    for cell in 0..cells {
+        report_cell(rt, site, cell)?;
     }
     Ok(())
 }
 
-// A page: what it repeats of its message, its page parameter, and the text of its content.
-fn show_page(rt: &LibcRuntime, page: &[u8]) -> Result<(), AnyError> {
-    let [s, t, i, j, coding, parameter, content @ ..] = page else {
-        return Ok(());
-    };
-    let number = parameter >> 4;
-    let total = parameter & 0x0f;
-    print!(
-        rt,
-        "    page {number} of {total}: {s:02x} {t:02x} {i:02x} {j:02x} {coding:02x} {parameter:02x} "
-    )?;
-    for octet in content {
+fn show_octets(rt: &LibcRuntime, octets: &[u8]) -> Result<(), AnyError> {
+    for octet in octets {
+        print!(rt, "{octet:02x} ")?;
+    }
+    Ok(())
+}
+
+fn show_text(rt: &LibcRuntime, octets: &[u8]) -> Result<(), AnyError> {
+    for octet in octets {
         if *octet != 0 {
             let letter = char::from(*octet);
             print!(rt, "{letter}")?;
         }
     }
+    Ok(())
+}
+
+// A page: its heading of six octets, and the text of its content.
+fn show_page(rt: &LibcRuntime, page: &[u8]) -> Result<(), AnyError> {
+    if page.len() < 6 {
+        return Ok(());
+    }
+    print!(rt, "    ")?;
+    show_octets(rt, &page[0..6])?;
+    show_text(rt, &page[6..])?;
     println!(rt, "")?;
     Ok(())
 }
@@ -60,17 +58,18 @@ fn show_record(rt: &LibcRuntime, at: usize, octets: &[u8]) -> Result<usize, AnyE
         return Ok(0);
     };
     let total = (parameter & 0x0f) as usize;
-    println!(rt, "  octet {at}: cell {cell}, channel {channel:02x}")?;
-    for page in octets[2..].chunks(88).take(total) {
+    println!(
+        rt,
+        "  octet {at}: cell {cell}, channel {channel:02x}, pages {total}"
+    )?;
+    for page in octets[2..].chunks(PAGE).take(total) {
         show_page(rt, page)?;
     }
-    Ok(2 + 88 * total)
+    Ok(2 + PAGE * total)
 }
 
-// So many broadcasts from the front of the memory on.
+// So many broadcasts from the front of a frame memory on.
 pub fn show_frames(rt: &LibcRuntime, memory: &[u8], broadcasts: usize) -> Result<(), AnyError> {
-    let octets = memory.len();
-    println!(rt, "frame memory, {octets} octets")?;
     let mut at = 0;
     for _ in 0..broadcasts {
         if at < memory.len() {

@@ -4,3 +4,4 @@ pub mod Messages
 pub mod Pages
 pub mod Events
 pub mod Drill
+pub mod Period

@@ -16,6 +16,7 @@ use cbsp::channel::Channel;
 pub mod cell_states;
 pub mod drill;
 pub mod message;
+pub mod period;
 
 pub trait Site {
     // what a site shows: its capacity, and for each cell whether it is open, its room and its counts

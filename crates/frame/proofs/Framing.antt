@@ -6,14 +6,14 @@ use Prim.Native.Nat.{ℕ}
 use denote.Ref.{name}
 use lib.ListN.{length}
 use Rattle.site.specs.Events.{Event, Goes}
 use Rattle.frame.specs.declared.frame_site.FrameSite.{FrameSite}
 use Rattle.frame.specs.Record.{put}
 use Rattle.frame.specs.Frame.{frameModel, Steps, ifLarge}
 use Rattle.frame.specs.Frames.{WithinPeriod, framesOf, Written}
 use Rattle.frame.proofs.Packing.{packs}
-use Rattle.airtime.specs.declared.period.Offer.{Offer}
-use Rattle.airtime.specs.Period.{events, Period}
-use Rattle.airtime.specs.Frames.{Framed}
+use Rattle.site.specs.declared.period.Offer.{Offer}
+use Rattle.site.specs.Period.{events, Period}
+use Rattle.frame.specs.Framed.{Framed}
 
 only-offers : (os : List Offer) (rs : List Bool) → WithinPeriod (events os rs)
 unfolding WithinPeriod events

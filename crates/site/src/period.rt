@@ -1,13 +1,13 @@
-// A period over any site.
+// A period over any site, with offers that are given.
 ghost use mathlib.Core.Path.{_≡_};
 ghost use mathlib.Core.List.{List, [], _∷_};
 ghost use lib.ListN.{length};
 ghost use Rattle.site.specs.Events.{Event, Goes, Chain};
 ghost use Rattle.site.specs.Events.Event.{started, offered};
-ghost use Rattle.airtime.specs.Period.{Offers, Period};
+ghost use Rattle.site.specs.Period.{Offers, Period};
+use crate::Site;
+use crate::message::CbsMessage;
 use cbsp::channel::Channel;
-use site::Site;
-use site::message::CbsMessage;
 
 // A message that is offered on a channel of a cell.
 #[derive(Clone, Copy)]

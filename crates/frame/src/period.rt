@@ -1,9 +1,9 @@
 // A period over a frame site, and what its memory then holds.
-ghost use Rattle.airtime.specs.Frames.{Framed, FirstFramed};
-use crate::period::Offer;
-use crate::period::air;
-use frame::frame_site::FrameSite;
-use frame::frame_site::FrameSiteImpl;
+ghost use Rattle.frame.specs.Framed.{Framed, FirstFramed};
+use crate::frame_site::FrameSite;
+use crate::frame_site::FrameSiteImpl;
+use site::period::Offer;
+use site::period::air;
 
 // One period; the memory begins with the broadcasts that were done, and stays as it was behind them.
 pub fn air_frames(site: &mut FrameSite<'_>, offers: &[Offer<'_>]) -> usize

@@ -6,10 +6,10 @@ use Prim.Native.Nat.{ℕ, _+_, _<_}
 use native.Mathlib.Omega.{arith}
 use lib.ListN.{length, take, getD}
 use Rattle.std.proofs.shelf.Lists.{length-push, take-more}
 use Rattle.site.specs.Events.{Event, Chain}
 use Rattle.site.proofs.Chains.{chain-none, chain-more}
-use Rattle.airtime.specs.declared.period.Offer.{Offer}
-use Rattle.airtime.specs.Period.{answered, events, doneOf, Offers}
+use Rattle.site.specs.declared.period.Offer.{Offer}
+use Rattle.site.specs.Period.{answered, events, doneOf, Offers}
 
 events-more : (os : List Offer) (rs : List Bool) (o : Offer) (r : Bool) → length rs ≡ length os → events (os ++ o ∷ []) (rs ++ r ∷ []) ≡ events os rs ++ answered o r ∷ []
 unfolding events

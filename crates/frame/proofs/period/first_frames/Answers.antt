@@ -1,5 +1,5 @@
 use borrow.Author.Needs.{needs}
-use Rattle.airtime.proofs.frames.first_frames.Needs as need
+use Rattle.frame.proofs.period.first_frames.Needs as need
 
 pub returns : need.returns
 returns c = record {

@@ -5,8 +5,8 @@ use Prim.Native.Nat.{ℕ, _+_}
 use native.Mathlib.Omega.{arith}
 use borrow.Author.Needs.{needs}
 use Rattle.std.proofs.shelf.Lists.{take-all}
-use Rattle.airtime.proofs.Periods.{offers-none, offers-more}
-use Rattle.airtime.proofs.period.offer_all.Needs as need
+use Rattle.site.proofs.Offering.{offers-none, offers-more}
+use Rattle.site.proofs.period.offer_all.Needs as need
 
 pub loop-offer-holds : need.loop-offer-holds
 loop-offer-holds g c = (offers-none _ (c .args .site .now), omega arith)

@@ -1,8 +1,8 @@
 use Prim.Native.Nat.{_≤_}
 use lib.ListN.{take}
 use Rattle.site.specs.Events.{Goes}
-use Rattle.airtime.specs.Period.{Offers}
-use Rattle.airtime.proofs.period.offer_all.Given as given
+use Rattle.site.specs.Period.{Offers}
+use Rattle.site.proofs.period.offer_all.Given as given
 
 abbrev pub Inv-loop-offer : given.InvT-loop-offer
 Inv-loop-offer g l =

@@ -6,12 +6,12 @@ use denote.Ref.{name}
 use lib.ListN.{length}
 use Rattle.site.specs.Model.{New}
 use Rattle.site.specs.Events.{Goes}
 use Rattle.frame.specs.declared.frame_site.FrameSite.{FrameSite}
 use Rattle.frame.specs.Record.{put}
 use Rattle.frame.specs.Frame.{frameModel, Steps, ifLarge}
 use Rattle.frame.specs.Frames.{framesOf}
-use Rattle.airtime.specs.declared.period.Offer.{Offer}
-use Rattle.airtime.specs.Period.{events, Period}
+use Rattle.site.specs.declared.period.Offer.{Offer}
+use Rattle.site.specs.Period.{events, Period}
 
 -- the broadcasts that the period did stand from the first octet on, one behind the other; all other octets stay
 pub record Framed (s : FrameSite) (os : List Offer) (n : ℕ) (t : FrameSite) : Type 0 where

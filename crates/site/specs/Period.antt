@@ -4,10 +4,10 @@ use mathlib.Core.Bool.{Bool, true, false, cond}
 use mathlib.Core.List.{List, [], _∷_, map}
 use Prim.Native.Nat.{ℕ, _+_}
 use lib.ListN.{length}
 use Rattle.site.specs.Messages.{aired}
 use Rattle.site.specs.Events.{Event, Chain}
 use Rattle.site.specs.Events.Event.{started, offered}
-use Rattle.airtime.specs.declared.period.Offer.{Offer}
+use Rattle.site.specs.declared.period.Offer.{Offer}
 
 -- an offer with its answer
 abbrev pub answered : Offer → Bool → Event
