@@ -3,7 +3,7 @@ ghost use mathlib.Core.Path.{_≡_};
 ghost use Prim.Native.Nat.{ℕ, min};
 ghost use lib.ListN.{length};
 ghost use Rattle.site.specs.Messages.{aired};
-ghost use Rattle.site.specs.Pages.{highOctet, lowOctet, packed, pageParameter, pagesOnAir, pageOctets, PageExamples};
+ghost use Rattle.site.specs.Pages.{highOctet, lowOctet, packed, Parts, pageParameter, pagesOnAir, pageOctets, PageExamples};
 
 // The octets of a page on the air.
 pub const PAGE: usize = 88;
@@ -32,7 +32,8 @@ pub struct CbsMessage<'a> {
 
 // Two numbers of four bits in one octet.
 fn nibbles(upper: u8, lower: u8) -> u8
-    ensures { λ r. ⌜ r ≡ packed upper lower ⌝ }
+    ensures value { λ r. ⌜ r ≡ packed upper lower ⌝ }
+    ensures parts { λ r. ⌜ Parts upper lower r ⌝ }
 {
     (upper & 0x0f) << 4 | lower & 0x0f
 }
@@ -40,6 +41,7 @@ fn nibbles(upper: u8, lower: u8) -> u8
 // The page parameter of a page with that number out of a total.
 pub fn page_parameter(number: u8, total: u8) -> u8
     ensures value { λ r. ⌜ r ≡ pageParameter number total ⌝ }
+    ensures parts { λ r. ⌜ Parts number total r ⌝ }
     ensures examples { λ _. ⌜ PageExamples ⌝ }
 {
     nibbles(number, total)
