@@ -3,13 +3,12 @@ use mathlib.Core.Path.{_≡_, refl, ap, _∙_}
 use mathlib.Core.Bool.{Bool}
 use mathlib.Core.List.{List, [], _∷_}
 use Prim.Native.Nat.{ℕ}
+use native.Mathlib.Omega.{arith}
 use denote.Ref.{name}
-use lib.ListN.{length}
 use Rattle.site.specs.Events.{Event, Goes}
 use Rattle.frame.specs.declared.frame_site.FrameSite.{FrameSite}
-use Rattle.frame.specs.Record.{put}
-use Rattle.frame.specs.Frame.{frameModel, Steps, ifLarge}
-use Rattle.frame.specs.Frames.{WithinPeriod, framesOf, Written}
+use Rattle.frame.specs.Frame.{frameModel, Steps}
+use Rattle.frame.specs.Frames.{WithinPeriod, framesOf, behind, Written, Ample}
 use Rattle.frame.proofs.Packing.{packs}
 use Rattle.site.specs.declared.period.Offer.{Offer}
 use Rattle.site.specs.Period.{events, Period}
@@ -22,16 +21,18 @@ only-offers (o ∷ os) [] = tt
 only-offers (o ∷ os) (r ∷ rs) = only-offers os rs
 
 module _ (s t : FrameSite) (os : List Offer) (n : ℕ) (p : Period (Goes frameModel Steps) s os n t) where
-  w : Written (p .begun) (events os (p .offers .answers)) t
-  w = packs (p .begun) t (events os (p .offers .answers)) (only-offers os (p .offers .answers)) (p .offers .chain)
+  fresh : Ample (p .begun)
+  fresh = let i = p .start .itself in omega (arith, i .used, i .left)
+
+  written : Written (p .begun) (events os (p .offers .answers)) t
+  written = packs (p .begun) t (events os (p .offers .answers)) fresh (only-offers os (p .offers .answers)) (p .offers .chain)
 
   pub framed : Framed s os n t
   framed =
       let frames = framesOf (events os (p .offers .answers)) in
       let i = p .start .itself in
-      let here = p .begun .memory .now in
       record {
         period = p;
-        lender = w .lender ∙ i .lender;
-        memory = w .memory ∙ ap (λ (k : ℕ). ifLarge (length here) (put k frames here) here) (i .used) ∙ ap (λ (xs : List ℕ). ifLarge (length xs) (put 0 frames xs) xs) (i .memory);
+        lender = written .lender ∙ i .lender;
+        memory = written .memory ∙ ap (λ (k : ℕ). behind k frames (p .begun .memory .now)) (i .used) ∙ ap (behind 0 frames) (i .memory);
       }

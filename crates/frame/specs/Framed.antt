@@ -3,13 +3,11 @@ use mathlib.Core.Path.{_≡_}
 use mathlib.Core.List.{List}
 use Prim.Native.Nat.{ℕ}
 use denote.Ref.{name}
-use lib.ListN.{length}
 use Rattle.site.specs.Model.{New}
 use Rattle.site.specs.Events.{Goes}
 use Rattle.frame.specs.declared.frame_site.FrameSite.{FrameSite}
-use Rattle.frame.specs.Record.{put}
-use Rattle.frame.specs.Frame.{frameModel, Steps, ifLarge}
-use Rattle.frame.specs.Frames.{framesOf}
+use Rattle.frame.specs.Frame.{frameModel, Steps}
+use Rattle.frame.specs.Frames.{framesOf, behind}
 use Rattle.site.specs.declared.period.Offer.{Offer}
 use Rattle.site.specs.Period.{events, Period}
 
@@ -17,7 +15,7 @@ use Rattle.site.specs.Period.{events, Period}
 pub record Framed (s : FrameSite) (os : List Offer) (n : ℕ) (t : FrameSite) : Type 0 where
   pub period : Period (Goes frameModel Steps) s os n t
   pub lender : name (t .memory) ≡ name (s .memory)
-  pub memory : t .memory .now ≡ ifLarge (length (s .memory .now)) (put 0 (framesOf (events os (period .offers .answers))) (s .memory .now)) (s .memory .now)
+  pub memory : t .memory .now ≡ behind 0 (framesOf (events os (period .offers .answers))) (s .memory .now)
 
 -- the same of a new site on lent memory
 pub record FirstFramed (os : List Offer) (n : ℕ) (before after : List ℕ) : Type 0 where

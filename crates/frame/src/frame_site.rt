@@ -6,9 +6,7 @@ ghost use lib.ListN.{length};
 ghost use denote.Ref.{name};
 ghost use Rattle.site.specs.Model.{New};
 ghost use Rattle.frame.specs.Frame.{frameModel, frameSound, Steps, memoryCheck};
-use crate::cursor::CAPACITY;
-use crate::cursor::Cursor;
-use crate::cursor::MEMORY;
+use crate::record::LONGEST;
 use crate::record::write_record;
 use cbsp::channel::Channel;
 use cbsp::refusal::Refusal;
@@ -17,10 +15,18 @@ use site::cell_states::CELLS;
 use site::cell_states::CellStates;
 use site::message::CbsMessage;
 
+// The broadcasts of a period, over all cells.
+pub const CAPACITY: u16 = 16;
+
+// The octets that the longest broadcasts of a period have together.
+pub const MEMORY: usize = 16 * LONGEST;
+
+// Room that all cells share, and memory of which the first octets are used in the period.
 #[derive(Drop)]
 pub struct FrameSite<'a> {
     cells: CellStates,
-    cursor: Cursor,
+    left: u16,
+    used: usize,
     memory: &'a mut [u8],
 }
 
@@ -42,7 +48,8 @@ impl<'a> FrameSite<'a> {
     {
         FrameSite {
             cells: CellStates::new(),
-            cursor: Cursor::new(),
+            left: 0,
+            used: 0,
             memory,
         }
     }
@@ -64,7 +71,7 @@ pub impl Site for FrameSite<'_> as FrameSiteImpl {
     }
 
     fn room(&self, cell: usize) -> u16 {
-        if cell < CELLS { self.cursor.left() } else { 0 }
+        if cell < CELLS { self.left } else { 0 }
     }
 
     fn count(&self, cell: usize, channel: Channel) -> u64 {
@@ -80,19 +87,19 @@ pub impl Site for FrameSite<'_> as FrameSiteImpl {
     }
 
     fn start_period(&mut self) {
-        self.cursor.restart();
+        self.left = CAPACITY;
+        self.used = 0;
     }
 
     fn broadcast(&mut self, cell: usize, channel: Channel, message: CbsMessage<'_>) -> bool {
         if self.room(cell) == 0 || !self.cells.raise(cell, channel) {
             return false;
         }
-        let at = self.cursor.used();
-        let mut octets = 0;
-        if self.memory.len() >= MEMORY {
-            octets = write_record(self.memory, at, cell as u8, channel, message);
+        self.left -= 1;
+        let at = self.used;
+        if self.memory.len() >= MEMORY && at <= MEMORY - LONGEST {
+            self.used = at + write_record(self.memory, at, cell as u8, channel, message);
         }
-        self.cursor.advance(octets);
         true
     }
 }

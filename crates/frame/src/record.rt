@@ -9,10 +9,14 @@ ghost use Rattle.site.specs.Pages.{pagesOnAir, pageOctets};
 ghost use Rattle.frame.specs.Record.{put, airedOctets, recordOctets};
 use cbsp::channel::Channel;
 use site::message::CbsMessage;
+use site::message::MOST_PAGES;
 use site::message::PAGE;
 use site::message::Page;
 use site::message::page_octets;
 use site::message::pages_on_air;
+
+// The octets of the longest broadcast: cell, channel and fifteen pages.
+pub const LONGEST: usize = 2 + MOST_PAGES * PAGE;
 
 // Writes octets from a place on.
 pub fn write(memory: &mut [u8], at: usize, octets: &[u8])
