@@ -20,16 +20,16 @@ only-offers [] rs = tt
 only-offers (o ∷ os) [] = tt
 only-offers (o ∷ os) (r ∷ rs) = only-offers os rs
 
-module _ (s t : FrameSite) (os : List Offer) (n : ℕ) (p : Period (Goes frameModel Steps) s os n t) where
+module _ (s t : FrameSite) (os : List Offer) (n : ℕ) (p : Period frameModel Steps s os n t) where
   fresh : Ample (p .begun)
   fresh = let i = p .start .itself in omega (arith, i .used, i .left)
 
-  written : Written (p .begun) (events os (p .offers .answers)) t
-  written = packs (p .begun) t (events os (p .offers .answers)) fresh (only-offers os (p .offers .answers)) (p .offers .chain)
+  written : Written (p .begun) (events os (p .served .offers .answers)) t
+  written = packs (p .begun) t (events os (p .served .offers .answers)) fresh (only-offers os (p .served .offers .answers)) (p .served .offers .chain)
 
   pub framed : Framed s os n t
   framed =
-      let frames = framesOf (events os (p .offers .answers)) in
+      let frames = framesOf (events os (p .served .offers .answers)) in
       let i = p .start .itself in
       record {
         period = p;

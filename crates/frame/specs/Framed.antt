@@ -4,7 +4,6 @@ use mathlib.Core.List.{List}
 use Prim.Native.Nat.{ℕ}
 use denote.Ref.{name}
 use Rattle.site.specs.Model.{New}
-use Rattle.site.specs.Events.{Goes}
 use Rattle.frame.specs.declared.frame_site.FrameSite.{FrameSite}
 use Rattle.frame.specs.Frame.{frameModel, Steps}
 use Rattle.frame.specs.Frames.{framesOf, behind}
@@ -13,9 +12,9 @@ use Rattle.site.specs.Period.{events, Period}
 
 -- the broadcasts that the period did stand from the first octet on, one behind the other; all other octets stay
 pub record Framed (s : FrameSite) (os : List Offer) (n : ℕ) (t : FrameSite) : Type 0 where
-  pub period : Period (Goes frameModel Steps) s os n t
+  pub period : Period frameModel Steps s os n t
   pub lender : name (t .memory) ≡ name (s .memory)
-  pub memory : t .memory .now ≡ behind 0 (framesOf (events os (period .offers .answers))) (s .memory .now)
+  pub memory : t .memory .now ≡ behind 0 (framesOf (events os (period .served .offers .answers))) (s .memory .now)
 
 -- the same of a new site on lent memory
 pub record FirstFramed (os : List Offer) (n : ℕ) (before after : List ℕ) : Type 0 where

@@ -1,4 +1,4 @@
-// A site over memory that the host lends.
+// A site over memory that the host lends: all cells share one room, and broadcasts are written into the memory.
 ghost use mathlib.Core.Path.{_≡_};
 ghost use mathlib.Core.Bool.{true, false};
 ghost use Prim.Native.Nat.{ℕ, _+_, _-_, _<_, _≤_};
@@ -45,6 +45,7 @@ impl<'a> FrameSite<'a> {
         ensures new { λ r. ⌜ New (frameModel r) ⌝ }
         ensures lender { λ r. ⌜ name (r .memory) ≡ name (memory .entry) ⌝ }
         ensures memory { λ r. ⌜ now (r .memory) ≡ now (memory .entry) ⌝ }
+        ensures front { λ r. ⌜ r .used ≡ 0 ⌝ }
     {
         FrameSite {
             cells: CellStates::new(),

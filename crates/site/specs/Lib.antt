@@ -5,3 +5,4 @@ pub mod Pages
 pub mod Events
 pub mod Drill
 pub mod Period
+pub mod Counting

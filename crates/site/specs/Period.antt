@@ -5,8 +5,11 @@ use mathlib.Core.List.{List, [], _∷_, map}
 use Prim.Native.Nat.{ℕ, _+_}
 use lib.ListN.{length}
 use Rattle.site.specs.Messages.{aired}
-use Rattle.site.specs.Events.{Event, Chain}
+use Rattle.site.specs.Model.{Model}
+use Rattle.site.specs.Events.{Event, Goes, Chain}
 use Rattle.site.specs.Events.Event.{started, offered}
+use Rattle.site.specs.Counting.{doneAt}
+use Rattle.cbsp.specs.declared.channel.Channel.{Channel}
 use Rattle.site.specs.declared.period.Offer.{Offer}
 
 -- an offer with its answer
@@ -31,8 +34,13 @@ pub record Offers {S : Type 0} (go : S → Event → S → Type 0) (s : S) (os :
   pub chain : Chain go s (events os answers) t
   pub done : n ≡ doneOf answers
 
+-- and each count rose by the broadcasts done there, and by nothing else
+pub record Served {S : Type 0} (model : S → Model) (steps : S → Event → S → Type 0) (s : S) (os : List Offer) (n : ℕ) (t : S) : Type 0 where
+  pub offers : Offers (Goes model steps) s os n t
+  pub counts : (k : ℕ) (h : Channel) → model t .count k h ≡ model s .count k h + doneAt k h (events os (offers .answers))
+
 -- the same after the start of a period
-pub record Period {S : Type 0} (go : S → Event → S → Type 0) (s : S) (os : List Offer) (n : ℕ) (t : S) : Type 0 where
+pub record Period {S : Type 0} (model : S → Model) (steps : S → Event → S → Type 0) (s : S) (os : List Offer) (n : ℕ) (t : S) : Type 0 where
   pub begun : S
-  pub start : go s started begun
-  pub offers : Offers go begun os n t
+  pub start : Goes model steps s started begun
+  pub served : Served model steps begun os n t

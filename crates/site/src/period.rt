@@ -4,7 +4,7 @@ ghost use mathlib.Core.List.{List, [], _∷_};
 ghost use lib.ListN.{length};
 ghost use Rattle.site.specs.Events.{Event, Goes, Chain};
 ghost use Rattle.site.specs.Events.Event.{started, offered};
-ghost use Rattle.site.specs.Period.{Offers, Period};
+ghost use Rattle.site.specs.Period.{Served, Period};
 use crate::Site;
 use crate::message::CbsMessage;
 use cbsp::channel::Channel;
@@ -19,7 +19,7 @@ pub struct Offer<'a> {
 
 // Makes offers in their order; answers how many broadcasts were done.
 fn offer_all<S: Site>(site: &mut S, offers: &[Offer<'_>]) -> usize
-    ensures { λ r. ⌜ Offers (Goes (S·Site .model) (S·Site .steps)) (now (site .entry)) (now (offers .entry)) r (now (site .exit)) ⌝ }
+    ensures { λ r. ⌜ Served (S·Site .model) (S·Site .steps) (now (site .entry)) (now (offers .entry)) r (now (site .exit)) ⌝ }
 {
     let mut done = 0;
     for offer in offers {
@@ -32,7 +32,7 @@ fn offer_all<S: Site>(site: &mut S, offers: &[Offer<'_>]) -> usize
 
 // Starts a period and makes the offers.
 pub fn air<S: Site>(site: &mut S, offers: &[Offer<'_>]) -> usize
-    ensures { λ r. ⌜ Period (Goes (S·Site .model) (S·Site .steps)) (now (site .entry)) (now (offers .entry)) r (now (site .exit)) ⌝ }
+    ensures { λ r. ⌜ Period (S·Site .model) (S·Site .steps) (now (site .entry)) (now (offers .entry)) r (now (site .exit)) ⌝ }
 {
     site.start_period();
     offer_all(site, offers)
