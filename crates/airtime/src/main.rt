@@ -97,7 +97,34 @@ fn frames(
     show_frames(rt, memory.as_slice(), 3)?;
     memory.truncate(21151);
     frame(rt, memory.as_mut_slice(), offers)?;
-    show_frames(rt, memory.as_slice(), 3)
+    show_frames(rt, memory.as_slice(), 1)
+}
+
+// The last cell with more pages than go on the air, and a cell that is none.
+fn edges(rt: &LibcRuntime, heap: Global) -> Result<(), AnyError> {
+    let mut memory = vec![in heap; 0u8; 21152]?;
+    let pages = [text_page(b"One of seventeen pages."); 17];
+    let message = CbsMessage {
+        serial: 0x4000,
+        identifier: 52,
+        coding: 0x44,
+        pages: &pages,
+    };
+    let offers = [
+        Offer {
+            cell: 64,
+            channel: Channel::Extended,
+            message,
+        },
+        Offer {
+            cell: 63,
+            channel: Channel::Extended,
+            message,
+        },
+    ];
+    let done = first_frames(memory.as_mut_slice(), &offers);
+    println!(rt, "cells 64 and 63, broadcasts done: {done}")?;
+    show_frames(rt, memory.as_slice(), done)
 }
 
 fn main(rt: LibcRuntime) -> Result<(), AnyError> {
@@ -126,5 +153,6 @@ fn main(rt: LibcRuntime) -> Result<(), AnyError> {
         message: road,
     }];
     drill(&rt, offers.as_slice())?;
-    frames(&rt, rt.alloc(), offers.as_slice(), &once)
+    frames(&rt, rt.alloc(), offers.as_slice(), &once)?;
+    edges(&rt, rt.alloc())
 }
