@@ -1,11 +1,9 @@
 -- A period over a frame site, from its calls to its memory.
-use mathlib.Core.Path.{_≡_, refl, ap, _∙_}
+use mathlib.Core.Path.{ap, _∙_}
 use mathlib.Core.Bool.{Bool}
 use mathlib.Core.List.{List, [], _∷_}
 use Prim.Native.Nat.{ℕ}
 use native.Mathlib.Omega.{arith}
-use denote.Ref.{name}
-use Rattle.site.specs.Events.{Event, Goes}
 use Rattle.frame.specs.declared.frame_site.FrameSite.{FrameSite}
 use Rattle.frame.specs.Frame.{frameModel, Steps}
 use Rattle.frame.specs.Frames.{WithinPeriod, framesOf, behind, Written, Ample}

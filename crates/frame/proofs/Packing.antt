@@ -2,16 +2,16 @@
 use mathlib.Core.Path.{_≡_, refl, sym, ap, _∙_}
 use mathlib.Core.Bool.{Bool, true, false, cond, _&&_}
 use mathlib.Core.List.{List, [], _∷_, _++_}
-use Prim.Native.Nat.{ℕ, _+_, _*_, _≤_}
+use Prim.Native.Nat.{ℕ, _+_, _≤_}
 use native.Mathlib.Omega.{arith}
 use denote.Ref.{name}
 use lib.ListN.{length}
 use borrow.Author.Tests.{leb-true, le-leb}
-use Rattle.site.specs.Events.{Event, Goes, Chain}
+use Rattle.site.specs.Events.{Event, Chain}
 use Rattle.site.specs.Events.Event.{switched, started, offered}
 use Rattle.frame.specs.declared.frame_site.FrameSite.{FrameSite}
 use Rattle.frame.specs.Record.{put, recordOctets}
-use Rattle.frame.specs.Frame.{frameModel, Steps, large, fits}
+use Rattle.frame.specs.Frame.{large, fits}
 use Rattle.frame.specs.Frames.{WithinPeriod, framesOf, behind, Written, Ample, Packs}
 use Rattle.frame.proofs.Puts.{put-none, put-more, put-length}
 

@@ -1,7 +1,5 @@
 // A site over memory that the host lends: all cells share one room, and broadcasts are written into the memory.
 ghost use mathlib.Core.Path.{_≡_};
-ghost use mathlib.Core.Bool.{true, false};
-ghost use Prim.Native.Nat.{ℕ, _+_, _-_, _<_, _≤_};
 ghost use lib.ListN.{length};
 ghost use denote.Ref.{name};
 ghost use Rattle.site.specs.Model.{New};

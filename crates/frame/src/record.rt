@@ -1,9 +1,7 @@
 // What a broadcast writes into the memory: the cell, the channel, and the pages that go out.
 ghost use mathlib.Core.Path.{_≡_};
-ghost use mathlib.Core.List.{List, [], _∷_};
-ghost use Prim.Native.Nat.{ℕ, _+_, _*_, _≤_, _<_};
-ghost use lib.ListN.{length, take};
-ghost use Rattle.cbsp.specs.Channels.{channelCode};
+ghost use Prim.Native.Nat.{_+_, _*_, _≤_, _<_};
+ghost use lib.ListN.{length};
 ghost use Rattle.site.specs.Messages.{aired};
 ghost use Rattle.site.specs.Pages.{pagesOnAir, pageOctets};
 ghost use Rattle.frame.specs.Record.{put, airedOctets, recordOctets};

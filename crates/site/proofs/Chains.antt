@@ -1,5 +1,5 @@
 -- Chains of calls on a site.
-use mathlib.Core.Path.{_≡_, refl, sym, subst}
+use mathlib.Core.Path.{refl, subst}
 use mathlib.Core.List.{List, [], _∷_, _++_}
 use Rattle.site.specs.Events.{Event, Chain}
 

@@ -1,12 +1,12 @@
 -- One offer more.
-use mathlib.Core.Path.{_≡_, refl, sym, ap, subst, _∙_}
-use mathlib.Core.Bool.{Bool, true, false, cond}
+use mathlib.Core.Path.{_≡_, refl, sym, ap, _∙_}
+use mathlib.Core.Bool.{Bool, cond}
 use mathlib.Core.List.{List, [], _∷_, _++_}
 use Prim.Native.Nat.{ℕ, _+_, _<_}
 use native.Mathlib.Omega.{arith}
 use lib.ListN.{length, take, getD}
 use Rattle.std.proofs.shelf.Lists.{length-push, take-more}
-use Rattle.site.specs.Events.{Event, Chain}
+use Rattle.site.specs.Events.{Event}
 use Rattle.site.proofs.Chains.{chain-none, chain-more}
 use Rattle.site.specs.declared.period.Offer.{Offer}
 use Rattle.site.specs.Period.{answered, events, doneOf, Offers}

@@ -8,7 +8,7 @@ use lib.ListN.{getD}
 use borrow.Author.Tests.{le-ltb}
 use Rattle.cbsp.specs.declared.channel.Channel.{Channel}
 use Rattle.cbsp.specs.declared.channel.Channel.the-variants.{Basic, Extended}
-use Rattle.site.specs.Model.{Model, Past, Sound}
+use Rattle.site.specs.Model.{Model, Sound}
 use Rattle.site.specs.declared.cell_states.CellStates.{CellStates}
 
 -- x at a cell that a site has, else d

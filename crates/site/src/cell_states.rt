@@ -1,7 +1,6 @@
 // What the sites here keep of their cells: open or closed, and the broadcasts done on each channel.
 ghost use mathlib.Core.Path.{_≡_};
-ghost use mathlib.Core.Bool.{true, false};
-ghost use Prim.Native.Nat.{ℕ, _+_, _<_, _≤_, _^_};
+ghost use Prim.Native.Nat.{ℕ};
 ghost use lib.ListN.{getD};
 ghost use Rattle.site.specs.CellStates.{within, openAt, countAt, Fresh, Turned, Raised};
 use cbsp::channel::Channel;

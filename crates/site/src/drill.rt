@@ -1,7 +1,4 @@
 // The drill site: it only counts, and has room for each cell apart.
-ghost use mathlib.Core.Path.{_≡_};
-ghost use mathlib.Core.Bool.{true, false};
-ghost use Prim.Native.Nat.{ℕ, _+_, _-_, _<_, _≤_};
 ghost use Rattle.site.specs.Model.{New};
 ghost use Rattle.site.specs.Drill.{drillModel, drillSound};
 use crate::Site;

@@ -3,8 +3,7 @@
 // The trait states what a site means and nothing of how one is built, so code over any `S: Site` is proved once.
 // A site is new when `New` of its model holds; whatever makes one promises that.
 ghost use mathlib.Core.Path.{_≡_};
-ghost use mathlib.Core.Bool.{Bool, true, false};
-ghost use Prim.Native.Nat.{ℕ, _+_, _-_, _<_, _≤_};
+ghost use mathlib.Core.Bool.{true, false};
 ghost use denote.Ref.{now};
 ghost use Rattle.site.specs.Model.{Model, Sound};
 ghost use Rattle.site.specs.Events.{Event, Goes};

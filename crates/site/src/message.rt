@@ -1,7 +1,5 @@
 // A CBS message as it goes on the air, and the octets of its pages (3GPP TS 23.041).
 ghost use mathlib.Core.Path.{_≡_};
-ghost use Prim.Native.Nat.{ℕ, min};
-ghost use lib.ListN.{length};
 ghost use Rattle.site.specs.Messages.{aired};
 ghost use Rattle.site.specs.Pages.{highOctet, lowOctet, packed, Parts, pageParameter, pagesOnAir, pageOctets, PageExamples};
 

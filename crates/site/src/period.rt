@@ -1,9 +1,4 @@
 // A period over any site, with offers that are given.
-ghost use mathlib.Core.Path.{_≡_};
-ghost use mathlib.Core.List.{List, [], _∷_};
-ghost use lib.ListN.{length};
-ghost use Rattle.site.specs.Events.{Event, Goes, Chain};
-ghost use Rattle.site.specs.Events.Event.{started, offered};
 ghost use Rattle.site.specs.Period.{Served, Period};
 use crate::Site;
 use crate::message::CbsMessage;
