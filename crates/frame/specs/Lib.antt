@@ -1,2 +1,4 @@
 pub mod Record
 pub mod Frame
+pub mod Frames
+pub mod Framed

@@ -1,6 +1,6 @@
 -- What a broadcast writes into the memory of a frame site, and where.
 use mathlib.Core.List.{List, [], _∷_, _++_}
-use Prim.Native.Nat.{ℕ, _+_, _*_}
+use Prim.Native.Nat.{ℕ, _+_}
 use lib.ListN.{length, take, drop}
 use Rattle.cbsp.specs.declared.channel.Channel.{Channel}
 use Rattle.cbsp.specs.Channels.{channelCode}
@@ -20,10 +20,6 @@ airedOctets m = pagesFrom m 1 (take (pagesOnAir m) (m .pages))
 -- the octets of one broadcast: the cell, the channel, and the pages
 abbrev pub recordOctets : ℕ → Channel → Aired → List ℕ
 recordOctets cell channel m = cell ∷ channelCode channel ∷ airedOctets m
-
--- how many they are
-abbrev pub recordLength : Aired → ℕ
-recordLength m = 2 + 88 * pagesOnAir m
 
 -- the memory with octets from a place on; all others stay
 abbrev pub put : ℕ → List ℕ → List ℕ → List ℕ

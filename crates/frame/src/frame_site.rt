@@ -1,27 +1,30 @@
-// A site over memory that the host lends.
+// A site over memory that the host lends: all cells share one room, and broadcasts are written into the memory.
 ghost use mathlib.Core.Path.{_≡_};
-ghost use mathlib.Core.Bool.{true, false};
-ghost use Prim.Native.Nat.{ℕ, _+_, _-_, _<_, _≤_};
 ghost use lib.ListN.{length};
 ghost use denote.Ref.{name};
 ghost use Rattle.site.specs.Model.{New};
 ghost use Rattle.frame.specs.Frame.{frameModel, frameSound, Steps, memoryCheck};
-use crate::cursor::CAPACITY;
-use crate::cursor::Cursor;
-use crate::cursor::MEMORY;
-use crate::record::record_length;
+use crate::record::LONGEST;
 use crate::record::write_record;
 use cbsp::channel::Channel;
 use cbsp::refusal::Refusal;
 use site::Site;
-use site::cells::CELLS;
-use site::cells::Cells;
+use site::cell_states::CELLS;
+use site::cell_states::CellStates;
 use site::message::CbsMessage;
 
+// The broadcasts of a period, over all cells.
+pub const CAPACITY: u16 = 16;
+
+// The octets that the longest broadcasts of a period have together.
+pub const MEMORY: usize = 16 * LONGEST;
+
+// Room that all cells share, and memory of which the first octets are used in the period.
 #[derive(Drop)]
 pub struct FrameSite<'a> {
-    cells: Cells,
-    cursor: Cursor,
+    cells: CellStates,
+    left: u16,
+    used: usize,
     memory: &'a mut [u8],
 }
 
@@ -40,10 +43,12 @@ impl<'a> FrameSite<'a> {
         ensures new { λ r. ⌜ New (frameModel r) ⌝ }
         ensures lender { λ r. ⌜ name (r .memory) ≡ name (memory .entry) ⌝ }
         ensures memory { λ r. ⌜ now (r .memory) ≡ now (memory .entry) ⌝ }
+        ensures front { λ r. ⌜ r .used ≡ 0 ⌝ }
     {
         FrameSite {
-            cells: Cells::new(),
-            cursor: Cursor::new(),
+            cells: CellStates::new(),
+            left: 0,
+            used: 0,
             memory,
         }
     }
@@ -65,7 +70,7 @@ pub impl Site for FrameSite<'_> as FrameSiteImpl {
     }
 
     fn room(&self, cell: usize) -> u16 {
-        if cell < CELLS { self.cursor.left() } else { 0 }
+        if cell < CELLS { self.left } else { 0 }
     }
 
     fn count(&self, cell: usize, channel: Channel) -> u64 {
@@ -81,17 +86,18 @@ pub impl Site for FrameSite<'_> as FrameSiteImpl {
     }
 
     fn start_period(&mut self) {
-        self.cursor.restart();
+        self.left = CAPACITY;
+        self.used = 0;
     }
 
     fn broadcast(&mut self, cell: usize, channel: Channel, message: CbsMessage<'_>) -> bool {
         if self.room(cell) == 0 || !self.cells.raise(cell, channel) {
             return false;
         }
-        let at = self.cursor.used();
-        self.cursor.advance(record_length(message));
-        if self.memory.len() >= MEMORY {
-            write_record(self.memory, at, cell as u8, channel, message);
+        self.left -= 1;
+        let at = self.used;
+        if self.memory.len() >= MEMORY && at <= MEMORY - LONGEST {
+            self.used = at + write_record(self.memory, at, cell as u8, channel, message);
         }
         true
     }

@@ -1,4 +1,4 @@
 // The frame site: one room for all cells, and memory of the host in which every broadcast is written.
-mod cursor;
 pub mod frame_site;
+pub mod period;
 mod record;

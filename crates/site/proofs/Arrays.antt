@@ -6,7 +6,7 @@ use lib.Dec.{ltb}
 use lib.ListN.{getD, replicate}
 use borrow.Author.Tests.{ltb-true}
 use Rattle.std.proofs.shelf.Lists.{getD-replicate}
-use Rattle.site.specs.Cells.{within}
+use Rattle.site.specs.CellStates.{within}
 
 pub alike : {A : Type 0} (k : ℕ) (x d : A) → within k (getD (replicate 64 x) k d) d ≡ within k x d
 alike {A} k x d = go (ltb k 64) refl

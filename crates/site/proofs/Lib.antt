@@ -1,1 +1,4 @@
 pub mod Arrays
+pub mod Chains
+pub mod Offering
+pub mod Counting

@@ -1,6 +1,8 @@
 pub mod Model
-pub mod Cells
+pub mod CellStates
 pub mod Messages
 pub mod Pages
 pub mod Events
 pub mod Drill
+pub mod Period
+pub mod Counting

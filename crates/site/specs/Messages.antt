@@ -1,9 +1,10 @@
 -- A CBS message by its content.
-use mathlib.Core.List.{List, map}
+use mathlib.Core.List.{List}
 use Prim.Native.Nat.{ℕ}
 use Rattle.site.specs.declared.message.Page.{Page}
 use Rattle.site.specs.declared.message.CbsMessage.{CbsMessage}
 
+-- what is handed to a site: serial number, message identifier, data coding scheme, and the contents of the pages
 pub record Aired : Type 0 where
   pub serial : ℕ
   pub identifier : ℕ

@@ -1,7 +1,7 @@
 -- The layout of a page on the air.
 use mathlib.Core.Path.{_≡_}
 use mathlib.Core.List.{List, _∷_}
-use Prim.Native.Nat.{ℕ, min, _+_, _*_, _/_, _%_}
+use Prim.Native.Nat.{ℕ, min, _+_, _*_, _/_, _%_, _<_}
 use lib.ListN.{length}
 use Rattle.site.specs.declared.message.Page.{Page}
 use Rattle.site.specs.Messages.{Aired}
@@ -16,6 +16,11 @@ lowOctet x = x % 256
 -- two numbers of four bits in one octet
 abbrev pub packed : ℕ → ℕ → ℕ
 packed upper lower = upper % 16 * 16 + lower % 16
+
+-- such an octet read back: its upper four bits and its lower
+pub record Parts (upper lower octet : ℕ) : Type 0 where
+  pub above : upper < 16 → octet / 16 ≡ upper
+  pub below : lower < 16 → octet % 16 ≡ lower
 
 -- the page's number in the upper four bits, the number of pages in the lower
 abbrev pub pageParameter : ℕ → ℕ → ℕ

@@ -1,13 +1,10 @@
 // The drill site: it only counts, and has room for each cell apart.
-ghost use mathlib.Core.Path.{_≡_};
-ghost use mathlib.Core.Bool.{true, false};
-ghost use Prim.Native.Nat.{ℕ, _+_, _-_, _<_, _≤_};
 ghost use Rattle.site.specs.Model.{New};
 ghost use Rattle.site.specs.Drill.{drillModel, drillSound};
 use crate::Site;
-use crate::cells::CELLS;
-use crate::cells::Cells;
-use crate::cells::for_each_cell;
+use crate::cell_states::CELLS;
+use crate::cell_states::CellStates;
+use crate::cell_states::for_each_cell;
 use crate::message::CbsMessage;
 use cbsp::channel::Channel;
 
@@ -16,8 +13,8 @@ pub const CAPACITY: u16 = 512;
 
 #[derive(Clone, Copy)]
 pub struct DrillSite {
-    cells: Cells,
-    rooms: [u16; 64],
+    cells: CellStates,
+    rooms: [u16; CELLS],
 }
 
 impl DrillSite {
@@ -25,7 +22,7 @@ impl DrillSite {
         ensures { λ r. ⌜ New (drillModel r) ⌝ }
     {
         DrillSite {
-            cells: Cells::new(),
+            cells: CellStates::new(),
             rooms: for_each_cell(0),
         }
     }

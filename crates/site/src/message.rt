@@ -1,23 +1,21 @@
 // A CBS message as it goes on the air, and the octets of its pages (3GPP TS 23.041).
 ghost use mathlib.Core.Path.{_≡_};
-ghost use Prim.Native.Nat.{ℕ, min};
-ghost use lib.ListN.{length};
 ghost use Rattle.site.specs.Messages.{aired};
-ghost use Rattle.site.specs.Pages.{highOctet, lowOctet, packed, pageParameter, pagesOnAir, pageOctets, PageExamples};
+ghost use Rattle.site.specs.Pages.{highOctet, lowOctet, packed, Parts, pageParameter, pagesOnAir, pageOctets, PageExamples};
 
 // The octets of a page on the air.
 pub const PAGE: usize = 88;
 
-// The octets of a page's content.
+// The octets of a page's content, behind six octets of heading.
 pub const CONTENT: usize = 82;
 
 // The most pages that a message has on the air: page numbers have four bits.
 pub const MOST_PAGES: usize = 15;
 
-// The content of one page, user information and padding as the centre sent them.
+// The content of one page: user information and the padding behind it, as the centre sent them.
 #[derive(Clone, Copy)]
 pub struct Page {
-    pub content: [u8; 82],
+    pub content: [u8; CONTENT],
 }
 
 // What goes out in a broadcast: what every page repeats, and the contents of the pages in order.
@@ -32,7 +30,8 @@ pub struct CbsMessage<'a> {
 
 // Two numbers of four bits in one octet.
 fn nibbles(upper: u8, lower: u8) -> u8
-    ensures { λ r. ⌜ r ≡ packed upper lower ⌝ }
+    ensures value { λ r. ⌜ r ≡ packed upper lower ⌝ }
+    ensures parts { λ r. ⌜ Parts upper lower r ⌝ }
 {
     (upper & 0x0f) << 4 | lower & 0x0f
 }
@@ -40,6 +39,7 @@ fn nibbles(upper: u8, lower: u8) -> u8
 // The page parameter of a page with that number out of a total.
 pub fn page_parameter(number: u8, total: u8) -> u8
     ensures value { λ r. ⌜ r ≡ pageParameter number total ⌝ }
+    ensures parts { λ r. ⌜ Parts number total r ⌝ }
     ensures examples { λ _. ⌜ PageExamples ⌝ }
 {
     nibbles(number, total)
@@ -65,7 +65,7 @@ pub fn pages_on_air(message: CbsMessage<'_>) -> usize
 }
 
 // The octets of a page with that number.
-pub fn page_octets(message: CbsMessage<'_>, number: u8, page: &Page) -> [u8; 88]
+pub fn page_octets(message: CbsMessage<'_>, number: u8, page: &Page) -> [u8; PAGE]
     ensures { λ r. ⌜ r ≡ pageOctets (aired (message .entry)) number (now (page .entry)) ⌝ }
 {
     let mut octets = [0; PAGE];
@@ -75,6 +75,6 @@ pub fn page_octets(message: CbsMessage<'_>, number: u8, page: &Page) -> [u8; 88]
     octets[3] = low(message.identifier);
     octets[4] = message.coding;
     octets[5] = page_parameter(number, pages_on_air(message) as u8);
-    octets[6..88].copy_from_slice(&page.content);
+    octets[6..PAGE].copy_from_slice(&page.content);
     octets
 }

@@ -10,4 +10,5 @@ unfolding pagesFrom
 loop-i-holds c = (refl, sym (put-none (c .args .at) (c .args .memory .now)))
 
 pub loop-i-again : need.loop-i-again
-loop-i-again c = page-written (c .args .at) (c .loop-i .i) (aired (c .args .message)) _ (c .page-octets-octets .result) (c .args .memory .now) (c .loop-i .memory) _ (omega arith) (c .page-octets-octets .ensures) (omega arith) (omega arith) (c .write .ensures) (c .loop-i .inv)
+loop-i-again c =
+    page-written (c .args .at) (c .loop-i .i) (aired (c .args .message)) _ (c .args .memory .now) (c .loop-i .memory) _ (omega arith) (omega arith) (c .write-page .ensures .size) (c .write-page .ensures .written) (c .loop-i .inv)

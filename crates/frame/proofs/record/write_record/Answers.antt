@@ -1,5 +1,5 @@
 use mathlib.Core.Path.{refl, ap, _∙_}
-use mathlib.Core.List.{List, [], _∷_}
+use mathlib.Core.List.{[], _∷_}
 use Prim.Native.Nat.{ℕ, _+_}
 use native.Mathlib.Omega.{arith}
 use Rattle.cbsp.specs.Channels.{channelCode}
@@ -15,6 +15,7 @@ returns c =
     let memory = c .args .memory .now in
     let heading = λ (x : ℕ). put (at + 2) (airedOctets m) (put at (c .args .cell ∷ x ∷ []) memory) in
     record {
+      bound = omega arith;
       size = omega (arith, c .write-pages .ensures .size);
       written = c .write-pages .ensures .written ∙ ap (put (at + 2) (airedOctets m)) (c .write .ensures) ∙ ap heading (c .code .ensures) ∙ put-more at (at + 2) (c .args .cell ∷ channelCode (c .args .channel) ∷ []) (airedOctets m) memory refl (omega arith);
     }

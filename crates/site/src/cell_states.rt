@@ -1,37 +1,36 @@
-// What every site here keeps of its cells: open or closed, and the broadcasts done on each channel.
+// What the sites here keep of their cells: open or closed, and the broadcasts done on each channel.
 ghost use mathlib.Core.Path.{_≡_};
-ghost use mathlib.Core.Bool.{true, false};
-ghost use Prim.Native.Nat.{ℕ, _+_, _<_, _≤_, _^_};
+ghost use Prim.Native.Nat.{ℕ};
 ghost use lib.ListN.{getD};
-ghost use Rattle.site.specs.Cells.{within, openAt, countAt, Fresh, Turned, Raised};
+ghost use Rattle.site.specs.CellStates.{within, openAt, countAt, Fresh, Turned, Raised};
 use cbsp::channel::Channel;
 
 // The number of cells of a site.
 pub const CELLS: usize = 64;
 
-// At this count of broadcasts a cell declines on the channel.
+// At this count a cell declines further broadcasts on the channel.
 pub const MOST: u64 = 0x1_0000_0000_0000;
 
 // An array with one value for every cell.
-pub(crate) fn for_each_cell<T: Copy>(value: T) -> [T; 64]
+pub(crate) fn for_each_cell<T: Copy>(value: T) -> [T; CELLS]
     ensures { λ r. ⌜ ((k : ℕ) (d : T) → within k (getD r k d) d ≡ within k value d) ⌝ }
 {
     [value; CELLS]
 }
 
 #[derive(Clone, Copy)]
-pub struct Cells {
-    open: [bool; 64],
-    basic: [u64; 64],
-    extended: [u64; 64],
+pub struct CellStates {
+    open: [bool; CELLS],
+    basic: [u64; CELLS],
+    extended: [u64; CELLS],
 }
 
-impl Cells {
+impl CellStates {
     // All open, nothing counted.
-    pub fn new() -> Cells
+    pub fn new() -> CellStates
         ensures { λ r. ⌜ Fresh r ⌝ }
     {
-        Cells {
+        CellStates {
             open: for_each_cell(true),
             basic: for_each_cell(0),
             extended: for_each_cell(0),
