@@ -1,0 +1,11 @@
+pub mod Cells
+pub mod Entries
+pub mod Kinds
+pub mod Views
+pub mod Listed
+pub mod Laws
+pub mod Lists
+pub mod Spans
+pub mod CellLists
+pub mod Parts
+pub mod Measures
