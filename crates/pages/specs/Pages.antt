@@ -80,3 +80,7 @@ NextPage (Some p) was is = was ≡ p ∷ is
 abbrev pub FewerPages : Option Page → ℕ → ℕ → Type 0
 FewerPages None was is = is ≡ was
 FewerPages (Some p) was is = is + 1 ≡ was
+
+-- how many pages there are, where they can be spelt
+abbrev pub pageCount : List Page → Option ℕ
+pageCount ps = cond (within 1 15 (length ps) && each (page .fits) ps) (Some (length ps)) None

@@ -1,0 +1,3 @@
+// Messages written into lent space.
+pub mod element;
+pub mod slots;
