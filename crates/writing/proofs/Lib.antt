@@ -1,0 +1,4 @@
+pub mod SlotLaws
+pub mod Texts
+pub mod SlotSteps
+pub mod Whole

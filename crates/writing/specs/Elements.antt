@@ -71,5 +71,8 @@ slotFits (Some e) = elementFits e
 abbrev pub elementWidth : ElementV → Option ℕ
 elementWidth e = cond (elementFits e) (Some (length (spellElement e))) None
 
+abbrev pub slotWidth : Option ElementV → Option ℕ
+slotWidth e = cond (slotFits e) (Some (length (spellSlot e))) None
+
 abbrev pub slotsWidth : List (Option ElementV) → Option ℕ
 slotsWidth es = cond (each slotFits es) (Some (length (joined spellSlot es))) None
