@@ -1,6 +1,6 @@
 -- A recording: a cell file, then messages one behind the other.
 use mathlib.Core.List.{List}
-use mathlib.Core.Bool.{cond, not, _||_}
+use mathlib.Core.Bool.{cond}
 use Prim.Native.Nat.{ℕ, _+_, _*_, _≤_, min}
 use lib.Dec.{eqb}
 use lib.ListN.{length, getD}
@@ -10,7 +10,6 @@ use Rattle.std.specs.declared.result.Result.{Result}
 use Rattle.std.specs.declared.result.Result.the-variants.{Ok, Err}
 use Rattle.cbsp.specs.declared.refusal.Refusal.{Refusal}
 use Rattle.cbsp.specs.Framing.{firstLength}
-use Rattle.cbsp.specs.KeepAlive.{secondsOf}
 use Rattle.inspect.specs.declared.recording.Part.{Part}
 use Rattle.inspect.specs.declared.recording.Part.the-variants.{End, Message, Unfinished, TooLong}
 
@@ -33,7 +32,3 @@ Within os End = Unit {0}
 Within os (Message n) = (4 ≤ n) × (n ≤ length os)
 Within os Unfinished = Unit {0}
 Within os TooLong = Unit {0}
-
--- a KEEP-ALIVE has one element, the Keep Alive Repetition Period of two octets
-abbrev pub keepAliveSeconds : List ℕ → Option ℕ
-keepAliveSeconds os = cond (not (eqb (length os) 6) || not (eqb (getD os 4 0) 24)) None (secondsOf (getD os 5 0))

@@ -1,10 +1,9 @@
-// A recording: a cell file, then messages one behind the other.
+// A recording: a cell file, then messages one behind the other, of either side.
 ghost use mathlib.Core.Path.{_≡_};
 ghost use Prim.Native.Nat.{_≤_};
 ghost use lib.ListN.{length};
-ghost use Rattle.inspect.specs.Recording.{Within, fileEnd, keepAliveSeconds, partOf};
+ghost use Rattle.inspect.specs.Recording.{Within, fileEnd, partOf};
 use cbsp::framing::first_length;
-use cbsp::keep_alive::seconds;
 
 // What the rest of a recording begins with.
 #[derive(Clone, Copy)]
@@ -40,14 +39,4 @@ pub fn part_of(rest: &[u8]) -> Part
         Ok(None) => Part::Unfinished,
         Err(_) => Part::TooLong,
     }
-}
-
-// The seconds of a KEEP-ALIVE, nothing where it is not laid out as one.
-pub fn keep_alive_seconds(message: &[u8]) -> Option<u8>
-    ensures { λ r. ⌜ r ≡ keepAliveSeconds (now (message .entry)) ⌝ }
-{
-    if message.len() != 6 || message[4] != 0x18 {
-        return None;
-    }
-    seconds(message[5])
 }

@@ -1,7 +1,7 @@
 // The lines that are written of a recording.
+use crate::message_lines::show_elements;
 use crate::recording::Part;
 use crate::recording::file_end;
-use crate::recording::keep_alive_seconds;
 use crate::recording::part_of;
 use cbsp::message_type::MessageType;
 use cbsp::message_type::MessageTypeDisplay;
@@ -18,7 +18,7 @@ pub fn show(rt: &impl Print, list: &mut CellList, stream: &[u8]) -> io::Result<(
         Ok(count) => {
             println!(rt, "cell file: {end} octets, {count} cells")?;
             show_cells(rt, list.cells())?;
-            show_messages(rt, stream, end)
+            show_messages(rt, list.cells(), stream, end)
         }
         Err(refusal) => {
             let number = refusal.number();
@@ -51,12 +51,12 @@ fn channels_of(capability: Capability) -> &'static str {
 }
 
 // Each whole message from a place on, and what is left when there is no other.
-fn show_messages(rt: &impl Print, stream: &[u8], start: usize) -> io::Result<()> {
+fn show_messages(rt: &impl Print, known: &[Cell], stream: &[u8], start: usize) -> io::Result<()> {
     let mut at = start;
     while at < stream.len() {
         match part_of(&stream[at..]) {
             Part::Message(length) => {
-                show_message(rt, at, &stream[at..at + length])?;
+                show_message(rt, known, at, &stream[at..at + length])?;
                 at += length;
             }
             other => return show_rest(rt, at, &stream[at..], other),
@@ -65,37 +65,21 @@ fn show_messages(rt: &impl Print, stream: &[u8], start: usize) -> io::Result<()>
     Ok(())
 }
 
-fn show_message(rt: &impl Print, at: usize, message: &[u8]) -> io::Result<()> {
+// A line with the type and the length, then the elements.
+fn show_message(rt: &impl Print, known: &[Cell], at: usize, message: &[u8]) -> io::Result<()> {
     let length = message.len();
     if length == 0 {
         return Ok(());
     }
     let code = message[0];
     match MessageType::from_code(code) {
-        Some(MessageType::KeepAlive) => show_keep_alive(rt, at, message),
-        Some(known) => println!(
-            rt,
-            "offset {at}: {known}, {length} octets, elements not read"
-        ),
+        Some(kind) => println!(rt, "offset {at}: {kind}, {length} octets")?,
         None => println!(
             rt,
             "offset {at}: type {code:02x} is no message of the standard, {length} octets"
-        ),
+        )?,
     }
-}
-
-fn show_keep_alive(rt: &impl Print, at: usize, message: &[u8]) -> io::Result<()> {
-    let length = message.len();
-    match keep_alive_seconds(message) {
-        Some(seconds) => println!(
-            rt,
-            "offset {at}: KEEP-ALIVE, {length} octets, Keep Alive Repetition Period {seconds} seconds"
-        ),
-        None => println!(
-            rt,
-            "offset {at}: KEEP-ALIVE, {length} octets, elements not understood"
-        ),
-    }
+    show_elements(rt, known, at, message)
 }
 
 // What stands behind the last message that could be told.
