@@ -3,3 +3,5 @@ pub mod Channels
 pub mod Framing
 pub mod KeepAlive
 pub mod Types
+pub mod Serials
+pub mod PageParameter

@@ -5,4 +5,3 @@ pub mod Elements
 pub mod Codec
 pub mod Parts
 pub mod Whole
-pub mod Serials

@@ -9,4 +9,3 @@ pub mod octets;
 pub mod parts;
 pub mod reading;
 pub mod recovery;
-pub mod serial;

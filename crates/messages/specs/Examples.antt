@@ -14,12 +14,12 @@ use Rattle.elements.specs.declared.faults.Fault.{Fault}
 use Rattle.elements.specs.declared.faults.Layer.the-variants as layer
 use Rattle.elements.specs.declared.recovery.Recovery.the-variants.{Available}
 use Rattle.elements.specs.Faults.{unrecognised}
-use Rattle.elements.specs.Serials.{sameCode}
+use Rattle.cbsp.specs.Serials.{sameCode}
 use Rattle.lists.specs.declared.cell.CellIdentity.{CellIdentity}
 use Rattle.lists.specs.declared.cell.CellIdentity.the-variants.{LacCi, Ci}
 use Rattle.lists.specs.Entries.{Entry}
 use Rattle.lists.specs.CellLists.{CellsV, all, named}
-use Rattle.pages.specs.Parameters.{pageParameter}
+use Rattle.cbsp.specs.PageParameter.{pageParameter}
 use Rattle.requests.specs.Requests.{RequestV, ReferenceV, kill, reset, keepAlive, readRequest}
 use Rattle.answers.specs.Answers.{AnswerV, killFailure, resetComplete, restart, keepAliveComplete}
 use Rattle.messages.specs.Messages.{MessageV, request, answer, readMessage, spell, spellError}

@@ -2,6 +2,5 @@
 pub mod measuring;
 pub mod page;
 pub mod pages;
-pub mod parameter;
 pub mod reading;
 pub mod writing;

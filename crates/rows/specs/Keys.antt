@@ -1,12 +1,13 @@
 -- When two messages of a cell are the same, and which of a list that is.
 use mathlib.Core.Bool.{Bool, true, false, cond, _&&_}
 use mathlib.Core.List.{List, [], _∷_}
-use Prim.Native.Nat.{ℕ, _+_, _/_}
+use Prim.Native.Nat.{ℕ, _+_}
 use lib.Dec.{eqb}
 use Rattle.std.specs.declared.option.Option.{Option}
 use Rattle.std.specs.declared.option.Option.the-variants.{Some, None}
 use Rattle.cbsp.specs.declared.channel.Channel.{Channel}
 use Rattle.cbsp.specs.declared.channel.Channel.the-variants.{Basic, Extended}
+use Rattle.cbsp.specs.Serials.{serialCode}
 use Rattle.rows.specs.declared.row.Row.{Row}
 use Rattle.rows.specs.declared.key.Key.{Key}
 
@@ -16,16 +17,12 @@ sameChannel Basic Extended = false
 sameChannel Extended Basic = false
 sameChannel Extended Extended = true
 
--- the twelve most significant bits of a serial number
-abbrev pub codeOf : ℕ → ℕ
-codeOf serial = serial / 16
-
 abbrev pub keyOf : Channel → ℕ → ℕ → Key
-keyOf channel identifier serial = record { channel = channel; identifier = identifier; code = codeOf serial }
+keyOf channel identifier serial = record { channel = channel; identifier = identifier; code = serialCode serial }
 
 -- channel, identifier and code agree
 abbrev pub isSame : Key → Row → Bool
-isSame k r = sameChannel (r .channel) (k .channel) && eqb (r .identifier) (k .identifier) && eqb (codeOf (r .serial)) (k .code)
+isSame k r = sameChannel (r .channel) (k .channel) && eqb (r .identifier) (k .identifier) && eqb (serialCode (r .serial)) (k .code)
 
 -- the place of the first that passes, where the list begins at place n
 abbrev pub placeFrom : {X : Type 0} → (X → Bool) → ℕ → List X → Option ℕ

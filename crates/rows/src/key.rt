@@ -3,10 +3,11 @@ ghost use mathlib.Core.Path.{_≡_};
 ghost use Prim.Native.Nat.{_<_};
 ghost use lib.ListN.{length};
 ghost use Rattle.std.specs.Slices.{found};
-ghost use Rattle.rows.specs.Keys.{codeOf, firstOf, isSame, keyOf, placeOf};
+ghost use Rattle.rows.specs.Keys.{firstOf, isSame, keyOf, placeOf};
 use crate::row::Row;
 use cbsp::channel::Channel;
 use cbsp::channel::ChannelPartialEq;
+use cbsp::serial::serial_code;
 
 #[derive(Clone, Copy)]
 pub struct Key {
@@ -16,18 +17,11 @@ pub struct Key {
     pub code: u16,
 }
 
-// The code of a serial number: its lowest four bits, the update number, do not count.
-pub fn code_of(serial: u16) -> u16
-    ensures { λ r. ⌜ r ≡ codeOf serial ⌝ }
-{
-    serial >> 4
-}
-
 impl Key {
     pub fn new(channel: Channel, identifier: u16, serial: u16) -> Key
         ensures { λ r. ⌜ r ≡ keyOf channel identifier serial ⌝ }
     {
-        let code = code_of(serial);
+        let code = serial_code(serial);
         Key {
             channel,
             identifier,
@@ -40,7 +34,7 @@ impl Key {
     {
         row.channel == self.channel
             && row.identifier == self.identifier
-            && code_of(row.serial) == self.code
+            && serial_code(row.serial) == self.code
     }
 }
 

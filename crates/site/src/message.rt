@@ -1,7 +1,8 @@
 // A CBS message as it goes on the air, and the octets of its pages (3GPP TS 23.041).
 ghost use mathlib.Core.Path.{_≡_};
 ghost use Rattle.site.specs.Messages.{aired};
-ghost use Rattle.site.specs.Pages.{highOctet, lowOctet, packed, Parts, pageParameter, pagesOnAir, pageOctets, PageExamples};
+ghost use Rattle.site.specs.Pages.{highOctet, lowOctet, pageOctets, pagesOnAir};
+use cbsp::page::page_parameter;
 
 // The octets of a page on the air.
 pub const PAGE: usize = 88;
@@ -26,23 +27,6 @@ pub struct CbsMessage<'a> {
     pub identifier: u16,
     pub coding: u8,
     pub pages: &'a [Page],
-}
-
-// Two numbers of four bits in one octet.
-fn nibbles(upper: u8, lower: u8) -> u8
-    ensures value { λ r. ⌜ r ≡ packed upper lower ⌝ }
-    ensures parts { λ r. ⌜ Parts upper lower r ⌝ }
-{
-    (upper & 0x0f) << 4 | lower & 0x0f
-}
-
-// The page parameter of a page with that number out of a total.
-pub fn page_parameter(number: u8, total: u8) -> u8
-    ensures value { λ r. ⌜ r ≡ pageParameter number total ⌝ }
-    ensures parts { λ r. ⌜ Parts number total r ⌝ }
-    ensures examples { λ _. ⌜ PageExamples ⌝ }
-{
-    nibbles(number, total)
 }
 
 fn high(x: u16) -> u8

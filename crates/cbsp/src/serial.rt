@@ -1,6 +1,6 @@
 // The code of a serial number.
 ghost use mathlib.Core.Path.{_≡_};
-ghost use Rattle.elements.specs.Serials.{sameCode, serialCode};
+ghost use Rattle.cbsp.specs.Serials.{sameCode, serialCode};
 
 // The twelve most significant bits of a serial number.
 pub fn serial_code(serial: u16) -> u16

@@ -4,8 +4,8 @@ use native.Mathlib.Nat.{mod-eq-of-lt}
 use native.Mathlib.Omega.{arith}
 use lib.Bits.{bitAnd, bitOr}
 use Rattle.std.proofs.shelf.Bits.{and-mask, or-shifted, shl-whole, mod-below, div-mul-add, mod-mul-add}
-use Rattle.site.specs.Pages.{packed, Parts}
-use Rattle.site.proofs.message.nibbles.Needs as need
+use Rattle.cbsp.specs.PageParameter.{packed, Parts}
+use Rattle.cbsp.proofs.page.nibbles.Needs as need
 
 module _ (a b : ℕ) where
   both : bitOr ((bitAnd a 15 * 16) % 256) (bitAnd b 15) ≡ packed a b
