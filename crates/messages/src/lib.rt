@@ -1,4 +1,5 @@
 // Every message: read from octets, with its header, and spelt.
+pub mod errors;
 pub mod examples;
 pub mod laws;
 pub mod message;

@@ -58,16 +58,16 @@ completed-fits None = refl
 completed-fits (Some v) = refl
 
 write-spells : (v : WriteReplaceV) → joined spellSlot (writeSlots v) ≡ writing .spell v
-write-spells v = simp (number-slot, channel-slot, cells-slot, completed-slot, append-nil)
+write-spells v = simp (number-slot, append-nil)
 
 write-fits : (v : WriteReplaceV) → each slotFits (writeSlots v) ≡ writing .fits v
-write-fits v = simp (number-fits, channel-fits, cells-fits, completed-fits, and-true)
+write-fits v = simp (number-fits, and-true)
 
 reference-spells : (v : ReferenceV) → joined spellSlot (referenceSlots v) ≡ reference .spell v
-reference-spells v = simp (number-slot, channel-slot, cells-slot, completed-slot, append-nil)
+reference-spells v = simp append-nil
 
 reference-fits : (v : ReferenceV) → each slotFits (referenceSlots v) ≡ reference .fits v
-reference-fits v = simp (number-fits, channel-fits, cells-fits, completed-fits, and-true)
+reference-fits v = simp and-true
 
 write-complete-spells : (v : WriteCompleteV) → joined spellSlot (writeCompleteSlots v) ≡ writeCompleting .spell v
 write-complete-spells v = simp (number-slot, channel-slot, cells-slot, completed-slot, append-nil)
@@ -82,52 +82,52 @@ write-failure-fits : (v : WriteFailureV) → each slotFits (writeFailureSlots v)
 write-failure-fits v = simp (number-fits, channel-fits, cells-fits, completed-fits, and-true)
 
 kill-complete-spells : (v : KillCompleteV) → joined spellSlot (killCompleteSlots v) ≡ killCompleting .spell v
-kill-complete-spells v = simp (number-slot, channel-slot, cells-slot, completed-slot, append-nil)
+kill-complete-spells v = simp (channel-slot, cells-slot, completed-slot, append-nil)
 
 kill-complete-fits : (v : KillCompleteV) → each slotFits (killCompleteSlots v) ≡ killCompleting .fits v
-kill-complete-fits v = simp (number-fits, channel-fits, cells-fits, completed-fits, and-true)
+kill-complete-fits v = simp (channel-fits, cells-fits, completed-fits, and-true)
 
 kill-failure-spells : (v : KillFailureV) → joined spellSlot (killFailureSlots v) ≡ killFailing .spell v
-kill-failure-spells v = simp (number-slot, channel-slot, cells-slot, completed-slot, append-nil)
+kill-failure-spells v = simp (channel-slot, cells-slot, completed-slot, append-nil)
 
 kill-failure-fits : (v : KillFailureV) → each slotFits (killFailureSlots v) ≡ killFailing .fits v
-kill-failure-fits v = simp (number-fits, channel-fits, cells-fits, completed-fits, and-true)
+kill-failure-fits v = simp (channel-fits, cells-fits, completed-fits, and-true)
 
 status-complete-spells : (v : StatusCompleteV) → joined spellSlot (statusCompleteSlots v) ≡ statusCompleting .spell v
-status-complete-spells v = simp (number-slot, channel-slot, cells-slot, completed-slot, append-nil)
+status-complete-spells v = simp append-nil
 
 status-complete-fits : (v : StatusCompleteV) → each slotFits (statusCompleteSlots v) ≡ statusCompleting .fits v
-status-complete-fits v = simp (number-fits, channel-fits, cells-fits, completed-fits, and-true)
+status-complete-fits v = simp and-true
 
 status-failure-spells : (v : StatusFailureV) → joined spellSlot (statusFailureSlots v) ≡ statusFailing .spell v
-status-failure-spells v = simp (number-slot, channel-slot, cells-slot, completed-slot, append-nil)
+status-failure-spells v = simp (completed-slot, append-nil)
 
 status-failure-fits : (v : StatusFailureV) → each slotFits (statusFailureSlots v) ≡ statusFailing .fits v
-status-failure-fits v = simp (number-fits, channel-fits, cells-fits, completed-fits, and-true)
+status-failure-fits v = simp (completed-fits, and-true)
 
 reset-failure-spells : (v : ResetFailureV) → joined spellSlot (resetFailureSlots v) ≡ resetFailing .spell v
-reset-failure-spells v = simp (number-slot, channel-slot, cells-slot, completed-slot, append-nil)
+reset-failure-spells v = simp (cells-slot, append-nil)
 
 reset-failure-fits : (v : ResetFailureV) → each slotFits (resetFailureSlots v) ≡ resetFailing .fits v
-reset-failure-fits v = simp (number-fits, channel-fits, cells-fits, completed-fits, and-true)
+reset-failure-fits v = simp (cells-fits, and-true)
 
 restart-spells : (v : RestartV) → joined spellSlot (restartSlots v) ≡ restarting .spell v
-restart-spells v = simp (number-slot, channel-slot, cells-slot, completed-slot, append-nil)
+restart-spells v = simp append-nil
 
 restart-fits : (v : RestartV) → each slotFits (restartSlots v) ≡ restarting .fits v
 restart-fits v = refl
 
 failure-spells : (v : FailureV) → joined spellSlot (failureSlots v) ≡ failing .spell v
-failure-spells v = simp (number-slot, channel-slot, cells-slot, completed-slot, append-nil)
+failure-spells v = simp append-nil
 
 failure-fits : (v : FailureV) → each slotFits (failureSlots v) ≡ failing .fits v
-failure-fits v = simp (number-fits, channel-fits, cells-fits, completed-fits, and-true)
+failure-fits v = simp and-true
 
 error-spells : (v : ErrorV) → joined spellSlot (errorSlots v) ≡ erring .spell v
-error-spells v = simp (number-slot, channel-slot, cells-slot, completed-slot, append-nil)
+error-spells v = simp (number-slot, channel-slot, append-nil)
 
 error-fits : (v : ErrorV) → each slotFits (errorSlots v) ≡ erring .fits v
-error-fits v = simp (number-fits, channel-fits, cells-fits, completed-fits, and-true)
+error-fits v = simp (number-fits, channel-fits, and-true)
 
 request-spells : (r : RequestV) → joined spellSlot (requestSlots r) ≡ spellRequest r
 request-spells (ask.writeReplace v) = write-spells v

@@ -5,6 +5,7 @@ use mathlib.Core.List.{List, [], _∷_, _++_}
 use mathlib.Core.Logic.{_⊎_, inl, inr}
 use Prim.Native.Nat.{ℕ, _+_, _*_, _<_, _≤_}
 use native.Mathlib.Omega.{arith}
+use lib.Dec.{leb}
 use lib.ListN.{length, length-append}
 use Rattle.std.proofs.shelf.Tests.{and-parts, and-from, le-leb, leb-true}
 use Rattle.std.specs.shelf.Lists.{joined}
@@ -34,7 +35,8 @@ text-wide c ps n l e =
 pub count-few : (ps : List Page) (n : ℕ) → Some n ≡ pageCount ps → n ≤ 15
 count-few ps n e =
     let a = count-was ps n e in
-    let l : length ps ≤ 15 = leb-true _ _ (and-parts _ _ (a .0) .1) in
+    let b = and-parts (leb 1 (length ps)) (leb (length ps) 15) (a .0) in
+    let l : length ps ≤ 15 = leb-true (length ps) 15 (b .1) in
     omega (arith, a .2)
 
 -- a text that can be spelt has a count
