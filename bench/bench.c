@@ -22,6 +22,7 @@ struct sample {
     const char *name;
     uint32_t rounds;
     size_t count;
+    int same; /* whether libosmogsm writes what it read to the same octets */
     uint8_t octets[LONGEST];
 };
 
@@ -97,6 +98,7 @@ static void write_replace(struct sample *s, const char *name, uint32_t rounds, u
     end(s);
 }
 
+/* libosmogsm reads a KILL COMPLETE only where it has a Cell List, which the standard leaves optional, so it has one of one cell. */
 static void kill_complete(struct sample *s, const char *name, uint32_t rounds, unsigned entries)
 {
     begin(s, name, rounds, 0x05);
@@ -110,6 +112,7 @@ static void kill_complete(struct sample *s, const char *name, uint32_t rounds, u
         put_two(s, 100 + i);
         put_octet(s, 0x00);
     }
+    put_cells(s, 1);
     put_two(s, 0x1200);
     end(s);
 }
@@ -157,7 +160,7 @@ static struct osmo_cbsp_decoded *decoded(struct sample *s, struct msgb *msg)
 {
     struct osmo_cbsp_decoded *value = osmo_cbsp_decode(NULL, msg);
     if (!value) {
-        fprintf(stderr, "%s: libosmogsm does not read it\n", s->name);
+        fprintf(stderr, "%s: libosmogsm does not read it: %s\n", s->name, osmo_cbsp_errstr ? osmo_cbsp_errstr : "no reason");
         exit(1);
     }
     return value;
@@ -179,8 +182,8 @@ static void theirs_write(struct sample *s, uint32_t rounds)
         struct msgb *out = osmo_cbsp_encode(NULL, value);
         if (!out)
             exit(1);
-        if (i == 0 && (msgb_length(out) != s->count || memcmp(msgb_data(out), s->octets, s->count) != 0))
-            fprintf(stderr, "%s: libosmogsm writes other octets\n", s->name);
+        if (i == 0)
+            s->same = msgb_length(out) == s->count && memcmp(msgb_data(out), s->octets, s->count) == 0;
         msgb_free(out);
     }
     talloc_free(value);
@@ -207,6 +210,8 @@ static void compare(struct sample *s)
     double write = least(ours_write, s), their_write = least(theirs_write, s);
     printf("%-38s %6zu %9.0f %9.0f %7.1f %9.0f %9.0f %7.1f\n", s->name, s->count, read, their_read, their_read / read, write,
            their_write, their_write / write);
+    if (!s->same)
+        printf("  (libosmogsm writes it to other octets than it read)\n");
 }
 
 int main(void)

