@@ -9,3 +9,4 @@ pub mod ListLaws
 pub mod CellLaws
 pub mod PartLaws
 pub mod Widths
+pub mod Named
