@@ -18,7 +18,7 @@ use table::references::Kill;
 use table::references::KillRequest;
 use table::write::WriteRequest;
 
-// Cell 0 takes the message, cell 1 too; CI 9 is nobody's, twice.
+// Cell 0 takes the message, cell 1 too; CI 9 names no cell, twice.
 #[test]
 fn a_message_begins_where_it_can(rt: LibcRuntime) -> Result<(), Fail> {
     let heap = rt.alloc();

@@ -42,12 +42,12 @@ record Good (m : ℕ) (s : Stage) : Type 0 where
 cells-push : (ns : List Naming) (k : ℕ) → cellsIn (ns ++ naming.Cell k ∷ []) ≡ cellsIn ns ++ k ∷ []
 cells-push [] k = refl
 cells-push (naming.Cell j ∷ ns) k = ap (λ (ks : List ℕ). j ∷ ks) (cells-push ns k)
-cells-push (naming.Nobody e ∷ ns) k = cells-push ns k
+cells-push (naming.NoCell e ∷ ns) k = cells-push ns k
 
-cells-same : (ns : List Naming) (e : CellIdentity) → cellsIn (ns ++ naming.Nobody e ∷ []) ≡ cellsIn ns
+cells-same : (ns : List Naming) (e : CellIdentity) → cellsIn (ns ++ naming.NoCell e ∷ []) ≡ cellsIn ns
 cells-same [] e = refl
 cells-same (naming.Cell j ∷ ns) e = ap (λ (ks : List ℕ). j ∷ ks) (cells-same ns e)
-cells-same (naming.Nobody f ∷ ns) e = cells-same ns e
+cells-same (naming.NoCell f ∷ ns) e = cells-same ns e
 
 -- a number that is not there yet
 once-push : (ks : List ℕ) (k : ℕ) → Once ks → All (λ j. k ≡ j → ⊥) ks → Once (ks ++ k ∷ [])
@@ -97,11 +97,11 @@ good-names m (k ∷ ks) s a g = good-names m ks (noted s k) (a .1) (good-noted m
 good-entered : (cs : List Cell) (s : Stage) (e : CellIdentity) → Good (length cs) s → Good (length cs) (entered cs s e)
 good-entered cs s e g = go (isSome (names cs e))
   where
-    go : (b : Bool) → Good (length cs) (cond b (folded noted s (names cs e)) (stage (s .marks) (s .out ++ naming.Nobody e ∷ [])))
+    go : (b : Bool) → Good (length cs) (cond b (folded noted s (names cs e)) (stage (s .marks) (s .out ++ naming.NoCell e ∷ [])))
     go true = good-names (length cs) (names cs e) s (names-there e 0 (length cs) cs (omega arith)) g
     go false =
         record {
-          there = all-push (IsThere (length cs)) (s .out) (naming.Nobody e) (g .there) tt;
+          there = all-push (IsThere (length cs)) (s .out) (naming.NoCell e) (g .there) tt;
           marked = rw cells-same (g .marked);
           once = rw cells-same (g .once);
         }

@@ -41,7 +41,7 @@ isSome (k ∷ ks) = true
 -- an entry: its cells are named, or it names none and fails as it was given
 abbrev pub entered : List Cell → Stage → CellIdentity → Stage
 entered cs s e =
-    cond (isSome (names cs e)) (folded noted s (names cs e)) (record { marks = s .marks; out = s .out ++ naming.Nobody e ∷ [] })
+    cond (isSome (names cs e)) (folded noted s (names cs e)) (record { marks = s .marks; out = s .out ++ naming.NoCell e ∷ [] })
 
 -- what comes of a list of entries, where no cell was named before
 abbrev pub namings : List Cell → List CellIdentity → List Naming
@@ -58,13 +58,13 @@ namedBy (named es) = identitiesOf es
 -- a cell that is there
 abbrev pub IsThere : ℕ → Naming → Type 0
 IsThere n (naming.Cell k) = k < n
-IsThere n (naming.Nobody e) = Unit {0}
+IsThere n (naming.NoCell e) = Unit {0}
 
 -- the cells among what came of a list
 abbrev pub cellsIn : List Naming → List ℕ
 cellsIn [] = []
 cellsIn (naming.Cell k ∷ ns) = k ∷ cellsIn ns
-cellsIn (naming.Nobody e ∷ ns) = cellsIn ns
+cellsIn (naming.NoCell e ∷ ns) = cellsIn ns
 
 -- no number stands twice
 abbrev pub Once : List ℕ → Type 0

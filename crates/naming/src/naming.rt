@@ -4,5 +4,5 @@ use lists::cell::CellIdentity;
 #[derive(Clone, Copy)]
 pub enum Naming {
     Cell(usize),
-    Nobody(CellIdentity),
+    NoCell(CellIdentity),
 }

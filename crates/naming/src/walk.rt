@@ -67,7 +67,7 @@ pub(crate) fn enter(cells: &[Cell], identity: CellIdentity, marks: &mut [u8], ou
     ensures reserved { λ _. ⌜ vec-cap (now (out .exit)) ≡ vec-cap (now (out .entry)) ⌝ }
 {
     if !note_names(cells, identity, marks, out) {
-        out.push_reserved(Naming::Nobody(identity));
+        out.push_reserved(Naming::NoCell(identity));
     }
 }
 

@@ -28,7 +28,7 @@ identityAt cs k = LacCi (identities cs k .lac) (identities cs k .ci)
 -- an entry that names no cell stands in the reply as it was given
 abbrev pub whomIn : List Cell → Naming → CellIdentity
 whomIn cs (naming.Cell k) = identityAt cs k
-whomIn cs (naming.Nobody e) = e
+whomIn cs (naming.NoCell e) = e
 
 -- a count above 65,535 reads 65,535, with overflow
 abbrev pub countField : ℕ → ℕ

@@ -38,7 +38,7 @@ fn whom_in(cells: &[Cell], whom: Naming) -> CellIdentity
 {
     match whom {
         Naming::Cell(cell) => identity_at(cells, cell),
-        Naming::Nobody(identity) => identity,
+        Naming::NoCell(identity) => identity,
     }
 }
 

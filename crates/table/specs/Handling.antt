@@ -11,7 +11,7 @@ use Rattle.naming.specs.declared.naming.Naming.{Naming}
 use Rattle.naming.specs.declared.naming.Naming.the-variants as naming
 use Rattle.rows.specs.declared.row.Row.{Row}
 use Rattle.table.specs.declared.outcome.Outcome.{Outcome}
-use Rattle.table.specs.Outcomes.{nobody}
+use Rattle.table.specs.Outcomes.{noCell}
 use Rattle.table.specs.Settings.{Setting, setting}
 
 -- the capability of a cell by its number; past the list, none
@@ -35,15 +35,15 @@ module _ {R : Type 0} (answer : R → Setting → Outcome) (leaves : R → Setti
   -- an entry that names no cell fails, and does nothing
   abbrev pub comesOf : R → List (List Row) → Naming → Outcome
   comesOf q rows (naming.Cell k) = answer q (settingAt rows k)
-  comesOf q rows (naming.Nobody e) = nobody e
+  comesOf q rows (naming.NoCell e) = noCell e
 
   abbrev pub rowsOn : R → List (List Row) → Naming → List (List Row)
   rowsOn q rows (naming.Cell k) = leaves q (settingAt rows k)
-  rowsOn q rows (naming.Nobody e) = rows
+  rowsOn q rows (naming.NoCell e) = rows
 
   abbrev pub requestOn : R → List (List Row) → Naming → R
   requestOn q rows (naming.Cell k) = becomes q (settingAt rows k)
-  requestOn q rows (naming.Nobody e) = q
+  requestOn q rows (naming.NoCell e) = q
 
   abbrev pub stepOn : Stage R → Naming → Stage R
   stepOn s n =

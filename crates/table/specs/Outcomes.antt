@@ -10,14 +10,14 @@ use Rattle.naming.specs.declared.naming.Naming.{Naming}
 use Rattle.naming.specs.declared.naming.Naming.the-variants as naming
 use Rattle.table.specs.declared.outcome.Outcome.{Outcome}
 
-abbrev pub causeOfNobody : CellIdentity → Cause
-causeOfNobody (LacCi lac ci) = CellIdentityNotValid
-causeOfNobody (Ci ci) = CellIdentityNotValid
-causeOfNobody (Lac lac) = LaiOrLacNotValid
-causeOfNobody All = CellIdentityNotValid
+abbrev pub causeOfNoCell : CellIdentity → Cause
+causeOfNoCell (LacCi lac ci) = CellIdentityNotValid
+causeOfNoCell (Ci ci) = CellIdentityNotValid
+causeOfNoCell (Lac lac) = LaiOrLacNotValid
+causeOfNoCell All = CellIdentityNotValid
 
-abbrev pub nobody : CellIdentity → Outcome
-nobody e = record { whom = naming.Nobody e; ended = None; cause = Some (causeOfNobody e) }
+abbrev pub noCell : CellIdentity → Outcome
+noCell e = record { whom = naming.NoCell e; ended = None; cause = Some (causeOfNoCell e) }
 
 abbrev pub outcome : ℕ → Option ℕ → Option Cause → Outcome
 outcome k ended cause = record { whom = naming.Cell k; ended = ended; cause = cause }

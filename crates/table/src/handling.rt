@@ -42,7 +42,7 @@ fn handle_one<R: CellRequest, S: Site>(
         Naming::Cell(cell) => {
             request.apply(rows, cell, capability_at(cells, cell), site.is_open(cell))
         }
-        Naming::Nobody(identity) => Outcome::nobody(identity),
+        Naming::NoCell(identity) => Outcome::no_cell(identity),
     }
 }
 

@@ -1,6 +1,6 @@
 // What came of a request for a cell, or for an entry that names none.
 ghost use mathlib.Core.Path.{_≡_};
-ghost use Rattle.table.specs.Outcomes.{causeOfNobody, nobody};
+ghost use Rattle.table.specs.Outcomes.{causeOfNoCell, noCell};
 use elements::cause::Cause;
 use lists::cell::CellIdentity;
 use naming::naming::Naming;
@@ -14,8 +14,8 @@ pub struct Outcome {
     pub cause: Option<Cause>,
 }
 
-fn cause_of_nobody(identity: CellIdentity) -> Cause
-    ensures { λ r. ⌜ r ≡ causeOfNobody identity ⌝ }
+fn cause_of_no_cell(identity: CellIdentity) -> Cause
+    ensures { λ r. ⌜ r ≡ causeOfNoCell identity ⌝ }
 {
     match identity {
         CellIdentity::Lac(_) => Cause::LaiOrLacNotValid,
@@ -27,13 +27,13 @@ fn cause_of_nobody(identity: CellIdentity) -> Cause
 
 impl Outcome {
     // Of an entry that names no cell.
-    pub fn nobody(identity: CellIdentity) -> Outcome
-        ensures { λ r. ⌜ r ≡ nobody identity ⌝ }
+    pub fn no_cell(identity: CellIdentity) -> Outcome
+        ensures { λ r. ⌜ r ≡ noCell identity ⌝ }
     {
         Outcome {
-            whom: Naming::Nobody(identity),
+            whom: Naming::NoCell(identity),
             ended: None,
-            cause: Some(cause_of_nobody(identity)),
+            cause: Some(cause_of_no_cell(identity)),
         }
     }
 }
