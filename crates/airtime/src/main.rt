@@ -1,4 +1,6 @@
 // Runs a period over each kind of site and shows what it did: the counts, and the frame memory line by line.
+#![tactic(auto)]
+
 mod report;
 
 use cbsp::channel::Channel;

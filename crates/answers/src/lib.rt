@@ -1,4 +1,6 @@
 // The twelve answers and indications of the controller.
+#![tactic(auto)]
+
 pub mod answer;
 pub mod laws;
 pub mod reading;

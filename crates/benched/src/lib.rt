@@ -1,4 +1,6 @@
 // What the benchmark calls from C: messages read with all that is in them, and written.
+#![tactic(auto)]
+
 use answers::answer::{Answer, Done, KillComplete};
 use lists::cell::CellIdentity;
 use lists::cells::Cells;

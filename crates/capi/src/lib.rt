@@ -1,4 +1,6 @@
 // What C code of a controller calls: framing and the check of a cell file, each answered by one number.
+#![tactic(auto)]
+
 ghost use Rattle.std.specs.Prelude.{◌≡◌};
 ghost use Rattle.cbsp.specs.Framing.{first_length};
 ghost use Rattle.cells.specs.File.{checked_file};

@@ -1,5 +1,7 @@
 // What every part of the controller's end of CBSP shares: refusals, framing, message types, channels, keep-alive times,
 // the codes of serial numbers and page parameters.
+#![tactic(auto)]
+
 pub mod channel;
 pub mod framing;
 pub mod keep_alive;

@@ -1,4 +1,6 @@
 // Random and damaged octets: whatever is read as a message is written again to the same octets.
+#![tactic(auto)]
+
 use std::io;
 use std::io::Read;
 

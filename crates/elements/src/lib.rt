@@ -1,4 +1,6 @@
 // Information elements: their faults, the codes of their values, how one is found, read and written.
+#![tactic(auto)]
+
 pub mod broadcast;
 pub mod category;
 pub mod cause;

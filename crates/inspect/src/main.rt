@@ -1,4 +1,6 @@
 // Reads a recording of what a centre and a controller sent each other, and says what is in it.
+#![tactic(auto)]
+
 use cells::list::CellList;
 use std::io::Read;
 use std::{env, io};

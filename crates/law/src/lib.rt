@@ -1,4 +1,6 @@
 // The law of runs: the centre's book, the table and the site's counts agree after every run of calls.
+#![tactic(auto)]
+
 ghost use Rattle.law.specs.Law.{Law};
 
 use site::Site;

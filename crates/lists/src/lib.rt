@@ -1,4 +1,6 @@
 // List elements, handled once for every kind of entry.
+#![tactic(auto)]
+
 pub mod cell;
 pub mod cells;
 pub mod entries;

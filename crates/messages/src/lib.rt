@@ -1,4 +1,6 @@
 // Every message: read from octets, with its header, and spelt.
+#![tactic(auto)]
+
 pub mod errors;
 pub mod examples;
 pub mod laws;

@@ -1,4 +1,6 @@
 // The pages of a message: Message Content elements, of which as many stand one after the other as were announced.
+#![tactic(auto)]
+
 pub mod measuring;
 pub mod page;
 pub mod pages;

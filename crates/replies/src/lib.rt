@@ -1,4 +1,6 @@
 // The lists of a reply, from what came of a request.
+#![tactic(auto)]
+
 mod collecting;
 mod entries;
 pub mod work;

@@ -1,4 +1,6 @@
 // The five requests of the broadcast centre.
+#![tactic(auto)]
+
 pub mod laws;
 pub mod reading;
 pub mod request;

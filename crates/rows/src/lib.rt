@@ -1,4 +1,6 @@
 // The messages of a cell and the contents that they broadcast, and how a cell's messages are offered to a site.
+#![tactic(auto)]
+
 pub mod content;
 pub mod key;
 pub mod row;

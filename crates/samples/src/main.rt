@@ -1,4 +1,6 @@
 // Writes messages of every kind, a line of hexadecimal octets for each, for other readers of CBSP to be tried on.
+#![tactic(auto)]
+
 use std::io;
 
 mod answers_given;

@@ -1,4 +1,6 @@
 // What the elements of messages say, in lines for a reader, by the standard's names.
+#![tactic(auto)]
+
 pub mod content;
 pub mod elements;
 pub mod lists;

@@ -2,6 +2,8 @@
 //
 // The trait states what a site means and nothing of how one is built, so code over any `S: Site` is proved once.
 // A site is new when `New` of its model holds; whatever makes one promises that.
+#![tactic(auto)]
+
 ghost use Rattle.std.specs.Prelude.{◌≡◌, true, false};
 ghost use Rattle.site.specs.Model.{Model, Sound};
 ghost use Rattle.site.specs.Events.{Event, Goes};

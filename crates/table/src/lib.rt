@@ -1,4 +1,6 @@
 // What a request does in the cells that it names.
+#![tactic(auto)]
+
 pub mod asked;
 mod cells;
 pub mod handling;

@@ -1,4 +1,6 @@
 // Messages written into lent space.
+#![tactic(auto)]
+
 pub mod element;
 pub mod measuring;
 pub mod putting;
