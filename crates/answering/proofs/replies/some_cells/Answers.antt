@@ -2,8 +2,8 @@ use Rattle.lists.specs.Kinds.{cell_meant}
 use Rattle.answering.proofs.Absent.{none, some}
 use Rattle.answering.proofs.replies.some_cells.Goals as goal
 
-pub returns-then-is-empty : goal.returns-then-is-empty
-returns-then-is-empty c = rw (none cell_meant c.args.entries.now c.if-is-empty.ensures)
+pub returns-then-is_empty : goal.returns-then-is_empty
+returns-then-is_empty c = rw (none cell_meant c.args.entries.now c.if-is_empty.ensures)
 
 pub returns : goal.returns
-returns c = rw (some cell_meant c.args.entries.now c.if-is-empty.ensures).2
+returns c = rw (some cell_meant c.args.entries.now c.if-is_empty.ensures).2

@@ -5,8 +5,8 @@ use Rattle.cells.proofs.file.has_unknown_capability.Goals as goal
 pub loop-k-init : goal.loop-k-init
 loop-k-init c = any_none _
 
-pub returns-then-is-unknown : goal.returns-then-is-unknown
-returns-then-is-unknown c = any_found _ _ _ c.loop-k-test.true (sym c.is-unknown.ensures ∙ c.if-is-unknown.true)
+pub returns-then-is_unknown : goal.returns-then-is_unknown
+returns-then-is_unknown c = any_found _ _ _ c.loop-k-test.true (sym c.is_unknown.ensures ∙ c.if-is_unknown.true)
 
 pub loop-k-preserved : goal.loop-k-preserved
-loop-k-preserved c = any_more _ _ c.loop-k.invariant (sym c.is-unknown.ensures ∙ c.if-is-unknown.false)
+loop-k-preserved c = any_more _ _ c.loop-k.invariant (sym c.is_unknown.ensures ∙ c.if-is_unknown.false)

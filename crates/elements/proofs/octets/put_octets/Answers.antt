@@ -3,4 +3,4 @@ use Rattle.elements.proofs.Puts.{wrote_part}
 use Rattle.elements.proofs.octets.put_octets.Goals as goal
 
 pub returns : goal.returns
-returns c = wrote_part c.args.octets.now c.args.at _ c.args.out.now _ c.copy-from-slice.ensures.after (omega arith)
+returns c = wrote_part c.args.octets.now c.args.at _ c.args.out.now _ c.copy_from_slice.ensures.after (omega arith)

@@ -6,4 +6,4 @@ pub returns : goal.returns
 returns c =
     let v = c.args.value in
     wrote_then (v / 65536 ∷ v / 256 % 256 ∷ []) (v % 256 ∷ []) _ _ _ _ _ _ (omega arith)
-    (wrote_then (v / 65536 ∷ []) (v / 256 % 256 ∷ []) _ _ _ _ _ _ (omega arith) c.put-octet-next.ensures c.put-octet-next-2.ensures) c.put-octet.ensures
+    (wrote_then (v / 65536 ∷ []) (v / 256 % 256 ∷ []) _ _ _ _ _ _ (omega arith) c.put_octet-next.ensures c.put_octet-next-2.ensures) c.put_octet.ensures

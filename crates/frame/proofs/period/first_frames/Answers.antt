@@ -6,7 +6,7 @@ returns c = record {
   site = c.new-site.result;
   fresh = c.new-site.ensures.new;
   lent = c.new-site.ensures.memory;
-  last = c.air-frames.new.site;
-  framed = c.air-frames.ensures;
+  last = c.air_frames.new.site;
+  framed = c.air_frames.ensures;
   left = search rules;
 }

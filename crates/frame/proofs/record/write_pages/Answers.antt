@@ -10,4 +10,4 @@ loop-i-init c = (refl, sym (put_none c.args.at c.args.memory.now))
 
 pub loop-i-preserved : goal.loop-i-preserved
 loop-i-preserved c =
-    page_written c.args.at c.loop-i.i (aired c.args.message) _ c.args.memory.now c.loop-i.memory _ (omega arith) (omega arith) c.write-page.ensures.size c.write-page.ensures.written c.loop-i.invariant
+    page_written c.args.at c.loop-i.i (aired c.args.message) _ c.args.memory.now c.loop-i.memory _ (omega arith) (omega arith) c.write_page.ensures.size c.write_page.ensures.written c.loop-i.invariant

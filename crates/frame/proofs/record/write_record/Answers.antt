@@ -13,6 +13,6 @@ returns c =
     let heading = λ (x : ℕ). put (at + 2) (aired_octets m) (put at (c.args.cell ∷ x ∷ []) memory) in
     record {
       bound = omega arith;
-      size = omega (arith, c.write-pages.ensures.size);
-      written = c.write-pages.ensures.written ∙ ap (put (at + 2) (aired_octets m)) c.write.ensures ∙ ap heading c.code.ensures ∙ put_more at (at + 2) (c.args.cell ∷ channel_code c.args.channel ∷ []) (aired_octets m) memory refl (omega arith);
+      size = omega (arith, c.write_pages.ensures.size);
+      written = c.write_pages.ensures.written ∙ ap (put (at + 2) (aired_octets m)) c.write.ensures ∙ ap heading c.code.ensures ∙ put_more at (at + 2) (c.args.cell ∷ channel_code c.args.channel ∷ []) (aired_octets m) memory refl (omega arith);
     }

@@ -4,4 +4,4 @@ use Rattle.lists.proofs.entry.put_entry.Goals as goal
 pub returns : goal.returns
 returns g c =
     wrote_entry g.E.ListEntry.kind (g.E.ListEntry.meant c.args.entry.now) c.identity-cell.result _ _ _ _ _ _ _ _ c.identity-cell.ensures c.requires
-    c.put-form-at.ensures c.put-cell-at.ensures c.put-tail.ensures
+    c.put_form-at.ensures c.put_cell-at.ensures c.put_tail.ensures

@@ -5,7 +5,7 @@ use Rattle.lists.specs.Cells.{form_of}
 use Rattle.elements.proofs.Puts.{wrote_none}
 use Rattle.lists.proofs.entry.put_form.Goals as goal
 
-pub returns-then-has-heading : goal.returns-then-has-heading
-returns-then-has-heading g c =
+pub returns-then-has_heading : goal.returns-then-has_heading
+returns-then-has_heading g c =
     subst (λ (b : Bool). Wrote (own_form b (form_of c.args.cell)) c.args.at c.args.out.now c.args.out.now c.args.at)
-    (sym c.if-has-heading.true ∙ c.has-heading.ensures) (wrote_none c.args.out.now c.args.at)
+    (sym c.if-has_heading.true ∙ c.has_heading.ensures) (wrote_none c.args.out.now c.args.at)

@@ -4,21 +4,21 @@ use Rattle.lists.proofs.Steps.{inv-done, inv-fault}
 use Rattle.lists.proofs.From.{counted, sofar_more}
 use Rattle.lists.proofs.reading.count_entries.Goals as goal
 
-pub returns-in-err-after : goal.returns-in-err-after
-returns-in-err-after g c =
+pub returns-in_err-after : goal.returns-in_err-after
+returns-in_err-after g c =
     let k = g.E.ListEntry.kind in
     let i = c.loop-next.invariant.3 in
-    let p = err_from_is_err_and c.from-residual.result c.from-residual.ensures.1 in
+    let p = err_from_is_err_and c.from_residual.result c.from_residual.ensures.1 in
     rw (p.1, p.2)
     (inv-fault k c.args.broken c.args.heading c.args.end c.args.octets.now _ i.0 (k.most - c.loop-next.count) c.loop-next.next _ i.2
-    c.loop-next-test.true (omega arith) c.in-err-after.ensures.value)
+    c.loop-next-test.true (omega arith) c.in_err-after.ensures.value)
 
 pub loop-next-preserved : goal.loop-next-preserved
 loop-next-preserved g c = (
   search rules,
   search rules,
   search rules,
-  sofar_more g.E.ListEntry.kind c.args.broken c.args.heading c.args.end c.args.octets.now _ _ c.loop-next.count c.loop-next.next c.in-ok-after.after _ c.loop-next.invariant.3 c.loop-next-test.true (omega arith) c.in-ok-after.ensures.value,
+  sofar_more g.E.ListEntry.kind c.args.broken c.args.heading c.args.end c.args.octets.now _ _ c.loop-next.count c.loop-next.next c.in_ok-after.after _ c.loop-next.invariant.3 c.loop-next-test.true (omega arith) c.in_ok-after.ensures.value,
 )
 
 pub returns : goal.returns

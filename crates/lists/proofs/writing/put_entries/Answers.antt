@@ -7,10 +7,10 @@ use Rattle.lists.proofs.writing.put_entries.Goals as goal
 pub loop-found-init : goal.loop-found-init
 loop-found-init g c = progress_none (spell_entry g.E.ListEntry.kind) (listed g.E.ListEntry.kind g.E.ListEntry.meant c.args.entries) c.args.at c.args.out.now
 
-pub put-entry-next-requires : goal.put-entry-next-requires
-put-entry-next-requires g c =
+pub put_entry-next-requires : goal.put_entry-next-requires
+put_entry-next-requires g c =
     omega (arith, progress_room (spell_entry g.E.ListEntry.kind) _ _ _ _ _ _ _ _ c.in-Some.ensures.value c.loop-found.invariant, c.requires)
 
 pub loop-found-preserved : goal.loop-found-preserved
 loop-found-preserved g c =
-    progress_more (spell_entry g.E.ListEntry.kind) _ _ _ _ _ _ _ _ c.in-Some.ensures.value c.loop-found.invariant _ _ c.requires c.put-entry-next.ensures
+    progress_more (spell_entry g.E.ListEntry.kind) _ _ _ _ _ _ _ _ c.in-Some.ensures.value c.loop-found.invariant _ _ c.requires c.put_entry-next.ensures

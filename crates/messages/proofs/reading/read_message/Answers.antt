@@ -5,6 +5,6 @@ use Rattle.messages.proofs.reading.read_message.Goals as goal
 pub returns : goal.returns
 returns c =
     record {
-      value = c.read-checked.ensures;
-      spelt = spelt_from c.args.octets.now c.read-checked.result (λ k. omega (arith, c.type-inv.octets k)) c.read-checked.ensures;
+      value = c.read_checked.ensures;
+      spelt = spelt_from c.args.octets.now c.read_checked.result (λ k. omega (arith, c.type_inv.octets k)) c.read_checked.ensures;
     }

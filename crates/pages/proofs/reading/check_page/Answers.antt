@@ -12,12 +12,12 @@ returns c =
     let os = c.args.octets.now in
     let at = c.args.at in
     let body = c.in-Some.body in
-    let next = c.in-ok-check-body.field-0 in
-    let s : find 1 os at ≡ Ok (Some body) = sym c.in-ok-body.ensures ∙ ap Ok c.in-Some.is in
+    let next = c.in_ok-check_body.field-0 in
+    let s : find 1 os at ≡ Ok (Some body) = sym c.in_ok-body.ensures ∙ ap Ok c.in-Some.is in
     let f = found 1 os at body s in
-    let b = c.in-ok-check-body.ensures.bound in
+    let b = c.in_ok-check_body.ensures.bound in
     record {
-      value = ap (λ (r : Result (Option ℕ) ElementFault). mandatory r at (read_page os at)) s ∙ ap (raised to_message) c.in-ok-check-body.ensures.value
+      value = ap (λ (r : Result (Option ℕ) ElementFault). mandatory r at (read_page os at)) s ∙ ap (raised to_message) c.in_ok-check_body.ensures.value
           ∙ ap (λ (i : ℕ). Ok (page_at os i, next)) (sym f.2);
       bound = (omega (arith, b.0, f.2), b.1);
     }

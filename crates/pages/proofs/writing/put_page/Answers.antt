@@ -6,4 +6,4 @@ pub returns : goal.returns
 returns c =
     let p = c.args.page.now in
     wrote_then (1 ∷ p.used ∷ []) p.content _ _ _ _ _ _ (omega (arith, c.requires))
-    (wrote_then (1 ∷ []) (p.used ∷ []) _ _ _ _ _ _ (omega (arith, c.requires)) c.put-octet-next.ensures c.put-octet-next-2.ensures) c.put-octets.ensures
+    (wrote_then (1 ∷ []) (p.used ∷ []) _ _ _ _ _ _ (omega (arith, c.requires)) c.put_octet-next.ensures c.put_octet-next-2.ensures) c.put_octets.ensures

@@ -2,7 +2,7 @@ use Rattle.std.proofs.Common.{◌≡◌, List, [], ◌∷◌, ◌++◌, length, 
 use Rattle.replies.specs.Lists.{picked}
 use Rattle.replies.proofs.Picking.{pick_none, pick_some, pick_end}
 use Rattle.replies.proofs.collecting.collect.Goals as goal
-use Rattle.replies.proofs.collecting.collect.Goals.{in-Some, in-default}
+use Rattle.replies.proofs.collecting.collect.Goals.{in-Some, in_default}
 
 pub loop-outcome-init : goal.loop-outcome-init
 loop-outcome-init g c = (
@@ -20,12 +20,12 @@ loop-outcome-preserved g c =
       | in-Some w ↦
           let more = pick_some entry (vec_items c.loop-outcome.out) os i c.loop-outcome.invariant.0 _ w.in-Some.found c.loop-outcome-test.true w.in-Some.ensures in
           simp w.out-is (
-            (ap (λ (xs : List g.row.E.Denot). xs ++ picked entry _) w.push-reserved.ensures.items ∙ more),
-            (omega (arith, w.push-reserved.ensures.len, c.loop-outcome.invariant.1)),
-            (w.push-reserved.ensures.capacity ∙ c.loop-outcome.invariant.2),
+            (ap (λ (xs : List g.row.E.Denot). xs ++ picked entry _) w.push_reserved.ensures.items ∙ more),
+            (omega (arith, w.push_reserved.ensures.len, c.loop-outcome.invariant.1)),
+            (w.push_reserved.ensures.capacity ∙ c.loop-outcome.invariant.2),
           )
-      | in-default w ↦
-          let more = pick_none entry (vec_items c.loop-outcome.out) os i c.loop-outcome.invariant.0 _ c.loop-outcome-test.true w.in-default.ensures in
+      | in_default w ↦
+          let more = pick_none entry (vec_items c.loop-outcome.out) os i c.loop-outcome.invariant.0 _ c.loop-outcome-test.true w.in_default.ensures in
           simp w.out-is (more, (omega (arith, c.loop-outcome.invariant.1)), c.loop-outcome.invariant.2)
     ]
 

@@ -4,16 +4,16 @@ use Rattle.rows.specs.Keys.{is_same, place_from}
 use Rattle.rows.proofs.Places.{here, onward}
 use Rattle.rows.proofs.key.place_of.Goals as goal
 
-pub returns-then-is-of : goal.returns-then-is-of
-returns-then-is-of c =
+pub returns-then-is_of : goal.returns-then-is_of
+returns-then-is_of c =
     record {
-      place = here (is_same c.args.key) c.args.rows.now c.loop-i.i _ c.loop-i-test.true c.loop-i.invariant (sym c.if-is-of.ensures);
+      place = here (is_same c.args.key) c.args.rows.now c.loop-i.i _ c.loop-i-test.true c.loop-i.invariant (sym c.if-is_of.ensures);
       within = c.loop-i-test.true;
     }
 
 pub loop-i-preserved : goal.loop-i-preserved
 loop-i-preserved c =
-    onward (is_same c.args.key) c.args.rows.now c.loop-i.i _ c.loop-i-test.true c.loop-i.invariant (sym c.if-is-of.ensures)
+    onward (is_same c.args.key) c.args.rows.now c.loop-i.i _ c.loop-i-test.true c.loop-i.invariant (sym c.if-is_of.ensures)
 
 pub returns : goal.returns
 returns c =

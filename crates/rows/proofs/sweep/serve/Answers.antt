@@ -9,8 +9,8 @@ use Rattle.rows.proofs.sweep.serve.Goals as goal
 pub loop-row-init : goal.loop-row-init
 loop-row-init g c = (refl, refl)
 
-pub take-turn-requires : goal.take-turn-requires
-take-turn-requires g c =
+pub take_turn-requires : goal.take_turn-requires
+take_turn-requires g c =
     all_at (λ r. r.count < 2 ^ 63) c.args.rows.now c.loop-row.rows c.loop-row.row-index _ c.loop-row-test.true c.loop-row.invariant.1
     c.requires
 
@@ -20,9 +20,9 @@ loop-row-preserved g c =
     let xs = c.args.rows.now in
     let ys = c.loop-row.rows in (
       linked_more (λ _ r u x v. Turn g.S.Site.model g.S.Site.steps (map text_of c.args.contents.now) c.args.cell (lowered r) u x v) xs ys i _
-          c.take-turn.new.row c.args.site.now _ _ c.loop-row-test.true c.loop-row.auto.rows c.loop-row.invariant.1 c.loop-row.invariant.0
-          c.take-turn.ensures,
-      rest_more xs ys i c.take-turn.new.row c.loop-row.invariant.1,
+          c.take_turn.new.row c.args.site.now _ _ c.loop-row-test.true c.loop-row.auto.rows c.loop-row.invariant.1 c.loop-row.invariant.0
+          c.take_turn.ensures,
+      rest_more xs ys i c.take_turn.new.row c.loop-row.invariant.1,
     )
 
 pub returns : goal.returns

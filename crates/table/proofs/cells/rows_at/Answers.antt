@@ -4,4 +4,4 @@ use Rattle.table.proofs.Places.{there}
 use Rattle.table.proofs.cells.rows_at.Goals as goal
 
 pub returns : goal.returns
-returns c = c.as-slice.ensures.value ∙ ap rows_of c.index-cells-cell.is ∙ there c.args.cells.now c.args.cell c.index-cells-cell.result c.requires
+returns c = c.as_slice.ensures.value ∙ ap rows_of c.index-cells-cell.is ∙ there c.args.cells.now c.args.cell c.index-cells-cell.result c.requires

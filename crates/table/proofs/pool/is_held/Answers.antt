@@ -4,15 +4,15 @@ use Rattle.rows.proofs.Searching.{search_hit, search_on, search_end}
 use Rattle.table.specs.Pool.{has_slot}
 use Rattle.table.proofs.pool.is_held.Goals as goal
 
-pub returns-then-has-slot : goal.returns-then-has-slot
-returns-then-has-slot c =
+pub returns-then-has_slot : goal.returns-then-has_slot
+returns-then-has_slot c =
     search_hit (has_slot c.args.slot) (λ _. true) (any_of (has_slot c.args.slot)) (λ x xs. refl) c.args.rows.now c.loop-row.row-index c.loop-row.invariant _
-    c.loop-row-test.true (sym c.if-has-slot.ensures)
+    c.loop-row-test.true (sym c.if-has_slot.ensures)
 
 pub loop-row-preserved : goal.loop-row-preserved
 loop-row-preserved c =
     search_on (has_slot c.args.slot) (λ _. true) (any_of (has_slot c.args.slot)) (λ x xs. refl) c.args.rows.now c.loop-row.row-index c.loop-row.invariant _
-    c.loop-row-test.true (sym c.if-has-slot.ensures)
+    c.loop-row-test.true (sym c.if-has_slot.ensures)
 
 pub returns : goal.returns
 returns c =

@@ -3,4 +3,4 @@ use Rattle.elements.proofs.Puts.{wrote_then}
 use Rattle.writing.proofs.putting.put_number.Goals as goal
 
 pub returns : goal.returns
-returns c = wrote_then (c.args.id ∷ []) _ _ _ _ _ _ _ (omega arith) c.put-octet-next.ensures c.put-two.ensures
+returns c = wrote_then (c.args.id ∷ []) _ _ _ _ _ _ _ (omega arith) c.put_octet-next.ensures c.put_two.ensures

@@ -9,8 +9,8 @@ use Rattle.writing.proofs.putting.put_slots.Goals as goal
 pub loop-slot-init : goal.loop-slot-init
 loop-slot-init c = progress_none spell_slot (map (mapped element_meant) c.args.slots.now) c.args.at c.args.out.now
 
-pub put-slot-next-requires : goal.put-slot-next-requires
-put-slot-next-requires c =
+pub put_slot-next-requires : goal.put_slot-next-requires
+put_slot-next-requires c =
     let d = ap (map (mapped element_meant)) (drop_more c.args.slots.now c.loop-slot.slot-index None c.loop-slot-test.true) in (
       omega (arith, progress_room spell_slot (map (mapped element_meant) c.args.slots.now) _ _ _ _ _ _ _ d c.loop-slot.invariant, c.requires.0),
       (
@@ -22,7 +22,7 @@ put-slot-next-requires c =
 pub loop-slot-preserved : goal.loop-slot-preserved
 loop-slot-preserved c =
     let d = ap (map (mapped element_meant)) (drop_more c.args.slots.now c.loop-slot.slot-index None c.loop-slot-test.true) in
-    progress_more spell_slot (map (mapped element_meant) c.args.slots.now) _ _ _ _ _ _ _ d c.loop-slot.invariant _ _ c.requires.0 c.put-slot-next.ensures
+    progress_more spell_slot (map (mapped element_meant) c.args.slots.now) _ _ _ _ _ _ _ d c.loop-slot.invariant _ _ c.requires.0 c.put_slot-next.ensures
 
 pub returns : goal.returns
 returns c =

@@ -8,6 +8,6 @@ use Rattle.writing.proofs.putting.put_text.Goals as goal
 pub returns : goal.returns
 returns c =
     let ps = pages_meant c.args.pages in
-    let first = subst (λ (n : ℕ). Wrote (19 ∷ n ∷ []) c.args.at c.args.out.now c.put-code-next.new.out c.put-code-next.result) c.requires.1 c.put-code-next.ensures in
+    let first = subst (λ (n : ℕ). Wrote (19 ∷ n ∷ []) c.args.at c.args.out.now c.put_code-next.new.out c.put_code-next.result) c.requires.1 c.put_code-next.ensures in
     wrote_then (19 ∷ length ps ∷ []) ((12 ∷ c.args.coding ∷ []) ++ flat_map page.spell ps) _ _ _ _ _ _ (omega (arith, c.requires.0)) first
-    (wrote_then (12 ∷ c.args.coding ∷ []) (flat_map page.spell ps) _ _ _ _ _ _ (omega (arith, c.requires.0)) c.put-code-next-2.ensures c.put-pages.ensures)
+    (wrote_then (12 ∷ c.args.coding ∷ []) (flat_map page.spell ps) _ _ _ _ _ _ (omega (arith, c.requires.0)) c.put_code-next-2.ensures c.put_pages.ensures)

@@ -8,28 +8,28 @@ use Rattle.writing.proofs.writing.write_message.Goals as goal
 pub returns : goal.returns
 returns c =
     let m = message_meant c.args.message in
-    let s = map (mapped element_meant) c.message-slots-slots.result in
-    let e = c.message-slots-slots.ensures in
-    let w = written m s e c.in-Some.width c.message-type.result c.args.out.now c.put-message.new.out c.put-message.result c.in-Some.ensures (omega arith) c.message-type.ensures c.put-message.ensures in
+    let s = map (mapped element_meant) c.message_slots-slots.result in
+    let e = c.message_slots-slots.ensures in
+    let w = written m s e c.in-Some.width c.message_type.result c.args.out.now c.put_message.new.out c.put_message.result c.in-Some.ensures (omega arith) c.message_type.ensures c.put_message.ensures in
     record {
       value = w;
-      back = reads_back m s e c.in-Some.width c.args.out.now c.put-message.new.out c.put-message.result c.in-Some.ensures (omega arith) (λ k. omega (arith, c.type-inv.out k)) w.1;
+      back = reads_back m s e c.in-Some.width c.args.out.now c.put_message.new.out c.put_message.result c.in-Some.ensures (omega arith) (λ k. omega (arith, c.type_inv.out k)) w.1;
     }
 
-pub returns-in-default : goal.returns-in-default
-returns-in-default c =
-    record { value = (unfit (message_meant c.args.message) (map (mapped element_meant) c.message-slots-slots.result) c.message-slots-slots.ensures c.in-default.ensures, refl); back = tt }
+pub returns-in_default : goal.returns-in_default
+returns-in_default c =
+    record { value = (unfit (message_meant c.args.message) (map (mapped element_meant) c.message_slots-slots.result) c.message_slots-slots.ensures c.in_default.ensures, refl); back = tt }
 
 pub returns-then-width : goal.returns-then-width
 returns-then-width c =
     record {
-      value = (too_long (message_meant c.args.message) (map (mapped element_meant) c.message-slots-slots.result) c.message-slots-slots.ensures c.in-Some.width c.in-Some.ensures (omega arith), refl);
+      value = (too_long (message_meant c.args.message) (map (mapped element_meant) c.message_slots-slots.result) c.message_slots-slots.ensures c.in-Some.width c.in-Some.ensures (omega arith), refl);
       back = tt;
     }
 
 pub returns-then-out-width : goal.returns-then-out-width
 returns-then-out-width c =
     record {
-      value = no_room (message_meant c.args.message) (map (mapped element_meant) c.message-slots-slots.result) c.message-slots-slots.ensures c.in-Some.width c.args.out.now c.in-Some.ensures (omega arith) (omega arith);
+      value = no_room (message_meant c.args.message) (map (mapped element_meant) c.message_slots-slots.result) c.message_slots-slots.ensures c.in-Some.width c.args.out.now c.in-Some.ensures (omega arith) (omega arith);
       back = tt;
     }

@@ -7,8 +7,8 @@ use Rattle.cells.proofs.list.CellList.cells.Goals as goal
 pub returns : goal.returns
 returns c =
     record {
-      value = c.as-slice.ensures;
+      value = c.as_slice.ensures;
       some = search rules;
       few = search rules;
-      apart = subst (λ (cs : List Cell). Apart cs) (sym c.as-slice.ensures) (apart _ c.args.self.now.distinct);
+      apart = subst (λ (cs : List Cell). Apart cs) (sym c.as_slice.ensures) (apart _ c.args.self.now.distinct);
     }

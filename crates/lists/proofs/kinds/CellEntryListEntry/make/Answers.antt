@@ -6,4 +6,4 @@ use Rattle.lists.proofs.kinds.CellEntryListEntry.make.Goals as goal
 pub returns : goal.returns
 returns c =
     let f : List ℕ → Entry = λ t. record { cell = c.args.cell; tail = t } in
-    (refl, ap f (none c.args.-tail.now c.requires))
+    (refl, ap f (none c.args._tail.now c.requires))

@@ -6,7 +6,7 @@ use Rattle.rows.proofs.rows.Rows.take.Goals as goal
 
 pub returns-in-Some : goal.returns-in-Some
 returns-in-Some c =
-    let p = ap (place_of (is_same c.args.key)) (sym c.as-slice.ensures.value) ∙ sym c.in-Some.ensures.place in
+    let p = ap (place_of (is_same c.args.key)) (sym c.as_slice.ensures.value) ∙ sym c.in-Some.ensures.place in
     let f = found_at (is_same c.args.key) (vec_items c.args.self.now.rows) c.remove.result c.in-Some.place p in
     record {
       value = ap Some c.remove.ensures.value ∙ sym f.first;
@@ -15,6 +15,6 @@ returns-in-Some c =
 
 pub returns-in-None : goal.returns-in-None
 returns-in-None c =
-    let p = ap (place_of (is_same c.args.key)) (sym c.as-slice.ensures.value) ∙ sym c.in-None.ensures.place in
+    let p = ap (place_of (is_same c.args.key)) (sym c.as_slice.ensures.value) ∙ sym c.in-None.ensures.place in
     let m = missing (is_same c.args.key) (vec_items c.args.self.now.rows) 0 p in
     record { value = sym m.0; after = sym m.1 }

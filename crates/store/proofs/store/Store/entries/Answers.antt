@@ -5,4 +5,4 @@ use Rattle.store.proofs.Entries.{entries_mean}
 use Rattle.store.proofs.store.Store.entries.Goals as goal
 
 pub returns : goal.returns
-returns c = ap (λ (es : List CellEntry). map cell_meant es) (c.as-slice.ensures.value ∙ c.args.self.now.named) ∙ entries_mean _
+returns c = ap (λ (es : List CellEntry). map cell_meant es) (c.as_slice.ensures.value ∙ c.args.self.now.named) ∙ entries_mean _

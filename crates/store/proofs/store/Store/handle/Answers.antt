@@ -12,12 +12,12 @@ use Rattle.store.proofs.store.Store.handle.Goals as goal
 
 pub returns : goal.returns
 returns g c =
-    let cells = c.as-slice.ensures.value in
-    let rows = c.as-mut-slice.ensures.value in
-    let e = with_items_is c.args.self.now.rows c.run.new.rows (c.run.auto.rows ∙ c.as-mut-slice.ensures.len) in
+    let cells = c.as_slice.ensures.value in
+    let rows = c.as_mut_slice.ensures.value in
+    let e = with_items_is c.args.self.now.rows c.run.new.rows (c.run.auto.rows ∙ c.as_mut_slice.ensures.len) in
     let W : List Cell → List Rows → Stage g.row.R.Denot = λ cs rs. worked g.R.CellRequest.answer g.R.CellRequest.leaves g.R.CellRequest.becomes cs (g.S.Site.model c.args.site.now).opened c.args.request.now (map rows_of rs) (cells_meant c.args.list) in
-    let cs = c.as-slice.result.now in
-    let rs = c.as-mut-slice.result.now in
+    let cs = c.as_slice.result.now in
+    let rs = c.as_mut_slice.result.now in
     let ds = vec_items c.args.self.now.cells in
     let ss = vec_items c.args.self.now.rows in
     record {

@@ -19,5 +19,5 @@ send-requires g c =
     let r = reference_meant c.args.request in
     record {
       room = c.requires.room;
-      fits = spelt_two (λ x y. kill_reply r (map completed_meant x) (map failed_meant y)) _ _ _ _ _ c.kill-reply-reply.ensures (c.completed.ensures ∙ c.handle.ensures.completed) (c.failed.ensures ∙ c.handle.ensures.failed) ((replies_fit outcomes_tell).kill (cells_held s) (g.S.Site.model c.args.site.now).opened c.key-by-key.result (rows_held s) r (rows_known s) (cells_few s) c.requires.fits);
+      fits = spelt_two (λ x y. kill_reply r (map completed_meant x) (map failed_meant y)) _ _ _ _ _ c.kill_reply-reply.ensures (c.completed.ensures ∙ c.handle.ensures.completed) (c.failed.ensures ∙ c.handle.ensures.failed) ((replies_fit outcomes_tell).kill (cells_held s) (g.S.Site.model c.args.site.now).opened c.key_by-key.result (rows_held s) r (rows_known s) (cells_few s) c.requires.fits);
     }

@@ -17,5 +17,5 @@ send-requires g c =
     let s = c.args.self.now in
     record {
       room = c.requires.room;
-      fits = spelt_two (λ x y. reset_reply (map cell_meant x) (map failed_meant y)) _ _ _ _ _ c.reset-reply-reply.ensures (c.begun.ensures ∙ c.handle.ensures.begun) (c.failed.ensures ∙ c.handle.ensures.failed) ((replies_fit outcomes_tell).reset (cells_held s) (g.S.Site.model c.args.site.now).opened (rows_held s) (reset_meant c.args.request) (rows_known s) (cells_few s) c.requires.fits);
+      fits = spelt_two (λ x y. reset_reply (map cell_meant x) (map failed_meant y)) _ _ _ _ _ c.reset_reply-reply.ensures (c.begun.ensures ∙ c.handle.ensures.begun) (c.failed.ensures ∙ c.handle.ensures.failed) ((replies_fit outcomes_tell).reset (cells_held s) (g.S.Site.model c.args.site.now).opened (rows_held s) (reset_meant c.args.request) (rows_known s) (cells_few s) c.requires.fits);
     }

@@ -11,10 +11,10 @@ use Rattle.store.proofs.store.Store.serve.Goals as goal
 
 pub returns : goal.returns
 returns g c =
-    let e = with_items_is c.args.self.now.rows c.serve-all.new.cells (c.serve-all.auto.cells ∙ c.as-mut-slice.ensures.len) in
-    let P : List Content → List Rows → List Rows → Type 0 = λ ts rs xs. Served g.S.Site.model g.S.Site.steps (map text_of ts) (map rows_of rs) c.args.site.now (map rows_of xs) c.serve-all.new.site in
+    let e = with_items_is c.args.self.now.rows c.serve_all.new.cells (c.serve_all.auto.cells ∙ c.as_mut_slice.ensures.len) in
+    let P : List Content → List Rows → List Rows → Type 0 = λ ts rs xs. Served g.S.Site.model g.S.Site.steps (map text_of ts) (map rows_of rs) c.args.site.now (map rows_of xs) c.serve_all.new.site in
     record {
-      served = subst (P (vec_items c.args.self.now.contents) (vec_items c.args.self.now.rows)) (sym e) (both (λ ts rs. P ts rs c.serve-all.new.cells) c.as-slice.result.now (vec_items c.args.self.now.contents) c.as-mut-slice.result.now (vec_items c.args.self.now.rows) c.as-slice.ensures.value c.as-mut-slice.ensures.value c.serve-all.ensures);
+      served = subst (P (vec_items c.args.self.now.contents) (vec_items c.args.self.now.rows)) (sym e) (both (λ ts rs. P ts rs c.serve_all.new.cells) c.as_slice.result.now (vec_items c.args.self.now.contents) c.as_mut_slice.result.now (vec_items c.args.self.now.rows) c.as_slice.ensures.value c.as_mut_slice.ensures.value c.serve_all.ensures);
       cells = refl;
       texts = refl;
     }

@@ -24,5 +24,5 @@ send-requires g c =
     let k = c.fill.ensures.work in
     record {
       room = c.requires.room;
-      fits = spelt_three (λ b x y. write_reply w (map cell_meant b) (map completed_meant x) (map failed_meant y)) _ _ _ _ _ _ _ c.write-reply-reply.ensures (c.begun.ensures ∙ ap (λ (z : Work). vec_items z.begun) k ∙ c.handle.ensures.begun) (c.completed.ensures ∙ ap (λ (z : Work). vec_items z.completed) k ∙ c.handle.ensures.completed) (c.failed.ensures ∙ ap (λ (z : Work). vec_items z.failed) k ∙ c.handle.ensures.failed) ((replies_fit outcomes_tell).write (cells_held s) (g.S.Site.model c.args.site.now).opened c.asked-by-asked.result (rows_held s) w (rows_known s) (cells_few s) c.requires.fits);
+      fits = spelt_three (λ b x y. write_reply w (map cell_meant b) (map completed_meant x) (map failed_meant y)) _ _ _ _ _ _ _ c.write_reply-reply.ensures (c.begun.ensures ∙ ap (λ (z : Work). vec_items z.begun) k ∙ c.handle.ensures.begun) (c.completed.ensures ∙ ap (λ (z : Work). vec_items z.completed) k ∙ c.handle.ensures.completed) (c.failed.ensures ∙ ap (λ (z : Work). vec_items z.failed) k ∙ c.handle.ensures.failed) ((replies_fit outcomes_tell).write (cells_held s) (g.S.Site.model c.args.site.now).opened c.asked_by-asked.result (rows_held s) w (rows_known s) (cells_few s) c.requires.fits);
     }

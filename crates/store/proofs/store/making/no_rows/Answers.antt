@@ -13,15 +13,15 @@ none _ = []
 
 pub loop-cell-preserved : goal.loop-cell-preserved
 loop-cell-preserved c = (
-  ap (λ (xs : List Rows). map rows_of xs) c.in-ok-push.ensures.items
-      ∙ map_push rows_of (vec_items c.loop-cell.rows) c.in-ok-new.field-0
-      ∙ filled_more none (map rows_of (vec_items c.loop-cell.rows)) c.args.cells.now c.loop-cell.-cell-index (rows_of c.in-ok-new.field-0) (record { identity = record { lac = 0; ci = 0 }; capability = NoChannel }) c.loop-cell-test.true c.loop-cell.invariant.0 c.in-ok-new.ensures,
-  omega (arith, c.in-ok-push.ensures.len, c.loop-cell.invariant.1),
+  ap (λ (xs : List Rows). map rows_of xs) c.in_ok-push.ensures.items
+      ∙ map_push rows_of (vec_items c.loop-cell.rows) c.in_ok-new.field-0
+      ∙ filled_more none (map rows_of (vec_items c.loop-cell.rows)) c.args.cells.now c.loop-cell._cell-index (rows_of c.in_ok-new.field-0) (record { identity = record { lac = 0; ci = 0 }; capability = NoChannel }) c.loop-cell-test.true c.loop-cell.invariant.0 c.in_ok-new.ensures,
+  omega (arith, c.in_ok-push.ensures.len, c.loop-cell.invariant.1),
 )
 
 pub returns : goal.returns
 returns c =
     record {
-      rows = filled_all none _ c.args.cells.now c.loop-cell.-cell-index c.loop-cell-test.false c.loop-cell.invariant.0;
-      len = omega (arith, c.loop-cell.invariant.1, c.loop-cell-test.false, c.loop-cell.auto.-cell-index-end);
+      rows = filled_all none _ c.args.cells.now c.loop-cell._cell-index c.loop-cell-test.false c.loop-cell.invariant.0;
+      len = omega (arith, c.loop-cell.invariant.1, c.loop-cell-test.false, c.loop-cell.auto._cell-index-end);
     }

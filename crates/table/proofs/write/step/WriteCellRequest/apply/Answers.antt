@@ -10,7 +10,7 @@ pub returns-in-Some : goal.returns-in-Some
 returns-in-Some c =
     let w = c.args.self.now in
     let s : Setting = setting (map rows_of c.args.rows.now) c.args.cell c.args.capability c.args.opened in
-    let r = stopped w s c.in-Some.cause (c.in-Some.ensures ∙ ap (λ (rs : List Row). barred w.asked c.args.capability c.args.opened rs) c.rows-at.ensures) in
+    let r = stopped w s c.in-Some.cause (c.in-Some.ensures ∙ ap (λ (rs : List Row). barred w.asked c.args.capability c.args.opened rs) c.rows_at.ensures) in
     record { answer = r.answer; leaves = r.leaves; becomes = r.becomes }
 
 pub returns : goal.returns
@@ -18,9 +18,9 @@ returns c =
     let w = c.args.self.now in
     let s : Setting = setting (map rows_of c.args.rows.now) c.args.cell c.args.capability c.args.opened in
     let r =
-    went_on w s (map rows_of c.end-old-ended.new.rows) (map rows_of c.begin-cause.new.rows) c.end-old-ended.result c.begin-cause.new.slot
+    went_on w s (map rows_of c.end_old-ended.new.rows) (map rows_of c.begin-cause.new.rows) c.end_old-ended.result c.begin-cause.new.slot
     c.begin-cause.result
-    (c.in-default.ensures ∙ ap (λ (rs : List Row). barred w.asked c.args.capability c.args.opened rs) c.rows-at.ensures)
-    c.end-old-ended.ensures.value c.end-old-ended.ensures.after c.begin-cause.ensures.cause c.begin-cause.ensures.rows
+    (c.in_default.ensures ∙ ap (λ (rs : List Row). barred w.asked c.args.capability c.args.opened rs) c.rows_at.ensures)
+    c.end_old-ended.ensures.value c.end_old-ended.ensures.after c.begin-cause.ensures.cause c.begin-cause.ensures.rows
     c.begin-cause.ensures.slot in
     record { answer = r.answer; leaves = r.leaves; becomes = r.becomes }
