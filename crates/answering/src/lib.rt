@@ -2,5 +2,5 @@
 #![tactic(auto)]
 
 pub mod laws;
-pub mod replies;
+pub mod replying;
 pub mod sending;

@@ -1,12 +1,12 @@
 -- The laws of the answers.
-use Rattle.std.proofs.Common.{◌≡◌, ℕ, ◌≤◌, true, List, [], ◌∷◌, ◌++◌, length, get_or, take, Some, None, Ok, Err, Option, sym, refl, ap, ◌∙◌, arith}
+use Rattle.std.proofs.Common.{◌≡◌, ℕ, ◌≤◌, true, List, [], ◌++◌, length, get_or, Some, None, Ok, Option, refl, arith}
 use Rattle.cbsp.specs.declared.channel.Channel.{Channel}
 use Rattle.cbsp.specs.declared.message_type.MessageType.{MessageType}
 use Rattle.cbsp.specs.declared.message_type.MessageType.TheVariants as type
 use Rattle.cbsp.specs.Types.{type_code, type_of}
 use Rattle.elements.specs.Octets.{Octets}
-use Rattle.elements.specs.Codec.{Codec, Lawful, Absent, nothing}
-use Rattle.elements.specs.Parts.{may_channel, may_new_serial, may_old_serial, may_identifier}
+use Rattle.elements.specs.Codec.{Lawful, Absent, nothing}
+use Rattle.elements.specs.Parts.{may_channel, may_new_serial, may_old_serial}
 use Rattle.elements.specs.Whole.{headed}
 use Rattle.elements.proofs.Standing.{not_ok}
 use Rattle.elements.proofs.Laws.{lawful_nothing, lawful_seq, lawful_via, absent_maybe, absent_then}
@@ -14,7 +14,6 @@ use Rattle.elements.proofs.Codings.{channel_lawful}
 use Rattle.elements.proofs.PartLaws.{number_lawful, may_number_lawful, may_channel_lawful, cause_lawful, recovery_lawful, broadcast_lawful}
 use Rattle.elements.proofs.Whole.{Kept, kind_forth, kind_back}
 use Rattle.lists.specs.CellLists.{CellsV}
-use Rattle.lists.specs.Entries.{Entry}
 use Rattle.lists.specs.Parts.{cells, may_cells, may_completed}
 use Rattle.lists.proofs.PartLaws.{cells_lawful, may_cells_lawful, completed_lawful, may_completed_lawful, failures_lawful}
 use Rattle.answers.specs.Answers.{

@@ -1,5 +1,5 @@
 -- The type octets of messages.
-use Rattle.std.specs.Prelude.{ℕ, cond, List, [], ◌∷◌, Some, None, Option, ◌==◌}
+use Rattle.std.specs.Prelude.{ℕ, cond, Some, None, Option, ◌==◌}
 use Rattle.cbsp.specs.declared.message_type.MessageType.{MessageType}
 use Rattle.cbsp.specs.declared.message_type.MessageType.TheVariants.{
   WriteReplace,

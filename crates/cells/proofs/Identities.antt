@@ -1,11 +1,10 @@
 -- Identities that are apart.
-use Rattle.std.proofs.Common.{◌≡◌, ℕ, ◌<◌, Bool, true, false, ◌&&◌, ◌⊎◌, List, map, length, get_or, sym, refl, ap, ◌∙◌, subst, ⊎_elim, arith}
-use Rattle.std.specs.List.{range_with_len}
+use Rattle.std.proofs.Common.{◌≡◌, ℕ, ◌<◌, true, false, List, length, sym, ap, ◌∙◌, ⊎_elim, arith}
 use Rattle.std.proofs.lemmas.List.FromFn.{length-map-range_with_len, get_or-map-range_with_len}
 use Rattle.std.proofs.lemmas.Bool.{and_from, eq-eqb, both_ways, cases_order}
 use Rattle.cells.specs.declared.cell.Identity.{Identity}
 use Rattle.cells.specs.declared.cell.Cell.{Cell}
-use Rattle.cells.specs.File.{same_identity, among_first, stands_before, repeated, identities, identity_at, cells_in, cell_count, Distinct, Apart}
+use Rattle.cells.specs.File.{same_identity, stands_before, repeated, identities, identity_at, cells_in, cell_count, Distinct, Apart}
 use Rattle.cells.proofs.Below.{any_same, none_below}
 
 same : (a b : Identity) → a ≡ b → same_identity a b ≡ true

@@ -1,5 +1,5 @@
 -- The octet of a cell file that says on which channels a cell can broadcast.
-use Rattle.std.specs.Prelude.{ℕ, Bool, true, false, cond, Some, None, Option, ◌==◌}
+use Rattle.std.specs.Prelude.{ℕ, cond, Some, None, Option, ◌==◌}
 use Rattle.cells.specs.declared.cell.Capability.{Capability}
 use Rattle.cells.specs.declared.cell.Capability.TheVariants.{NoChannel, BasicOnly, BothChannels}
 

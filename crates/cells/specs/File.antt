@@ -1,11 +1,10 @@
 -- The cell file: octet n, octet w, n identities of w octets each, n capabilities of one octet each.
-use Rattle.std.specs.Prelude.{◌≡◌, ℕ, zero, suc, ◌+◌, ◌*◌, ◌<◌, Bool, true, false, cond, not, ◌&&◌, ◌||◌, List, [], ◌∷◌, map, length, is_some, Ok, Err, Result, ◌==◌, nat_lt, slice_index, slice_index_or}
+use Rattle.std.specs.Prelude.{◌≡◌, ℕ, zero, suc, ◌+◌, ◌*◌, ◌<◌, Bool, false, cond, not, ◌&&◌, ◌||◌, List, [], ◌∷◌, map, length, is_some, Ok, Err, Result, ◌==◌, nat_lt, slice_index, slice_index_or}
 use Rattle.std.specs.List.{range_with_len}
 use Rattle.std.specs.Option.{unwrap_or}
 use Rattle.cbsp.specs.declared.refusal.Refusal.{Refusal}
 use Rattle.cbsp.specs.declared.refusal.Refusal.TheVariants.{FileLength, FileHeading, IdentityTwice, UnknownCapability}
 use Rattle.cells.specs.declared.cell.Identity.{Identity}
-use Rattle.cells.specs.declared.cell.Capability.{Capability}
 use Rattle.cells.specs.declared.cell.Capability.TheVariants.{NoChannel}
 use Rattle.cells.specs.declared.cell.Cell.{Cell}
 use Rattle.cells.specs.Capabilities.{capability_in}

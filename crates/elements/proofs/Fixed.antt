@@ -1,16 +1,11 @@
 -- The laws of the elements of fixed length.
-use Rattle.std.proofs.Common.{◌≡◌, ℕ, ◌+◌, ◌<◌, ◌≤◌, Bool, true, false, cond, ◌&&◌, eqb, ltb, leb, ◌⊎◌, List, [], ◌∷◌, ◌++◌, length, get_or, take, Some, None, Ok, Err, Option, Result, sym, refl, ap, ◌∙◌, subst, inl, inr, append_assoc, le_refl, arith, length-append}
-use Rattle.std.proofs.lemmas.Bool.{eqb-true, ltb-true, leb-true, le-leb, lt-ltb}
+use Rattle.std.proofs.Common.{◌≡◌, ℕ, ◌+◌, ◌<◌, ◌≤◌, Bool, true, List, [], ◌∷◌, ◌++◌, length, get_or, take, Some, None, Ok, Option, sym, refl, ap, ◌∙◌, subst, inl, inr, le_refl, arith, length-append}
+use Rattle.std.proofs.lemmas.Bool.{ltb-true, leb-true, le-leb, lt-ltb}
 use Rattle.std.proofs.lemmas.List.{take_more, get_or_at}
-use Rattle.cbsp.specs.declared.channel.Channel.{Channel}
-use Rattle.cbsp.specs.declared.channel.Channel.TheVariants.{Basic, Extended}
-use Rattle.cbsp.specs.Channels.{channel_code, channel_of}
-use Rattle.elements.specs.declared.faults.ElementFault.{ElementFault}
-use Rattle.elements.specs.Octets.{Octets, one, two, two_at}
-use Rattle.elements.specs.Elements.{within, valued, read_two, read_coded, ranged}
-use Rattle.elements.specs.Codec.{Lawful, BodyLaws, number_body, coded_body, octet_body, channel}
-use Rattle.elements.proofs.Standing.{when_ok, cond_was, same_ok, not_ok, two_stands, Stands, two_here}
-use Rattle.elements.proofs.Laws.{lawful_by, channel_laws}
+use Rattle.elements.specs.Octets.{one, two, two_at}
+use Rattle.elements.specs.Elements.{within, valued, read_coded, ranged}
+use Rattle.elements.specs.Codec.{BodyLaws, number_body, coded_body, octet_body}
+use Rattle.elements.proofs.Standing.{when_ok, cond_was, same_ok, not_ok, two_stands, two_here}
 
 pub number_laws : (lo hi : ℕ) → BodyLaws (number_body lo hi)
 number_laws lo hi = record {

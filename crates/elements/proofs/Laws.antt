@@ -1,14 +1,14 @@
 -- The laws of codecs, from part to whole.
-use Rattle.std.proofs.Common.{◌≡◌, ℕ, ◌+◌, ◌-◌, ◌*◌, ◌/◌, ◌%◌, ◌<◌, ◌≤◌, Bool, true, false, cond, ◌&&◌, eqb, ltb, leb, ◌⊎◌, List, [], ◌∷◌, ◌++◌, length, get_or, take, drop, Some, None, Ok, Err, Option, Result, sym, refl, ap, ◌∙◌, subst, inl, inr, append_assoc, append-nil, arith, length-append}
-use Rattle.std.proofs.lemmas.Bool.{eqb-true, ltb-true, leb-true, le-leb, lt-ltb, eq-eqb, ne_eqb, le-ltb, ltb-false, and_parts, and_from, and_right, cond-false}
-use Rattle.std.proofs.lemmas.List.{take_more, get_or_at, length_push, take_all}
+use Rattle.std.proofs.Common.{◌≡◌, ℕ, ◌+◌, ◌<◌, ◌≤◌, true, ◌&&◌, eqb, ltb, leb, List, [], ◌∷◌, ◌++◌, length, get_or, take, Some, None, Ok, Err, Option, Result, sym, refl, ap, ◌∙◌, subst, inl, inr, append_assoc, append-nil, arith, length-append}
+use Rattle.std.proofs.lemmas.Bool.{eqb-true, ltb-true, le-leb, lt-ltb, eq-eqb, ne_eqb, le-ltb, and_parts, and_from, and_right, cond-false}
+use Rattle.std.proofs.lemmas.List.{take_more, get_or_at, length_push}
 use Rattle.elements.specs.declared.faults.ElementFault.{ElementFault}
 use Rattle.elements.specs.declared.faults.Fault.{Fault}
-use Rattle.elements.specs.Octets.{Octets, two, two_at, then, raised}
-use Rattle.elements.specs.Faults.{to_message, missing}
-use Rattle.elements.specs.Elements.{find, find_channel, sought, mandatory, as_some, maybe, possible}
+use Rattle.elements.specs.Octets.{Octets, then, raised}
+use Rattle.elements.specs.Faults.{to_message}
+use Rattle.elements.specs.Elements.{find, find_channel, sought, as_some, maybe}
 use Rattle.elements.specs.Codec.{Codec, Body, nothing, seq, turned, via, element_by, element, optional, spell_maybe, fits_maybe, Absent, Lawful, BodyLaws}
-use Rattle.elements.proofs.Standing.{when_ok, cond_was, then_ok, same_ok, not_ok, raised_ok}
+use Rattle.elements.proofs.Standing.{cond_was, then_ok, same_ok, not_ok, raised_ok}
 
 pub lawful_nothing : Lawful nothing
 lawful_nothing = record {

@@ -1,8 +1,8 @@
 -- Writes, one after the other.
-use Rattle.std.proofs.Common.{◌≡◌, ℕ, zero, suc, ◌+◌, ◌<◌, ◌≤◌, List, [], ◌∷◌, ◌++◌, map, length, get_or, take, drop, set, sym, refl, ap, ◌∙◌, subst, append_assoc, append-nil, add-zero, add-one, arith, length-append, take-append-drop}
-use Rattle.std.proofs.lemmas.List.{set_split, take_at, drop_at, drop-drop, length-take-le, flat_map_more, map_more, take-append-le, take-take}
+use Rattle.std.proofs.Common.{◌≡◌, ℕ, ◌+◌, ◌<◌, ◌≤◌, List, [], ◌∷◌, ◌++◌, length, take, drop, set, sym, refl, ap, ◌∙◌, append_assoc, add-zero, add-one, arith, length-append, take-append-drop}
+use Rattle.std.proofs.lemmas.List.{set_split, take_at, drop_at, drop-drop, length-take-le, take-append-le, take-take}
 use borrow.Rule.Slice.PartMut.{put_mid}
-use Rattle.elements.specs.Octets.{Wrote, put}
+use Rattle.elements.specs.Octets.{Wrote}
 
 pub wrote_one : (os : List ℕ) (at b : ℕ) → at < length os → Wrote (b ∷ []) at os (set os at b) (at + 1)
 wrote_one os at b h = record { octets = rw add-one (set_split os at b h); place = refl }

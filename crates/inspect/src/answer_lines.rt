@@ -5,7 +5,7 @@ use answers::answer::{
 };
 use cbsp::channel::Channel;
 use cells::cell::Cell;
-use shown::elements::{
+use shown::element_lines::{
     show_broadcast_type, show_cause, show_channel, show_identifier, show_new_serial,
     show_old_serial, show_recovery,
 };

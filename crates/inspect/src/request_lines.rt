@@ -2,7 +2,7 @@
 use cells::cell::Cell;
 use requests::request::{Reference, Request, WriteReplace};
 use shown::content::show_pages;
-use shown::elements::{
+use shown::element_lines::{
     show_broadcasts, show_category, show_channel, show_identifier, show_keep_alive_period,
     show_new_serial, show_old_serial, show_period,
 };

@@ -1,0 +1,4 @@
+mod Bounds
+mod Listing
+mod Sweeping
+mod Telling

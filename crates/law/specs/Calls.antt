@@ -11,7 +11,7 @@ use Rattle.elements.specs.declared.recovery.Recovery.TheVariants.{Available, Los
 use Rattle.elements.specs.Octets.{mapped}
 use Rattle.lists.specs.Entries.{Entry}
 use Rattle.replies.specs.Lists.{identity_at}
-use Rattle.requests.specs.Requests.{RequestV, WriteReplaceV, ReferenceV, write_replace, kill, status_query, reset, keep_alive, read_request}
+use Rattle.requests.specs.Requests.{RequestV, WriteReplaceV, write_replace, kill, status_query, reset, keep_alive, read_request}
 use Rattle.answers.specs.Answers.{AnswerV, error, keep_alive_complete}
 use Rattle.messages.specs.Messages.{answer, error_for, spell, whole_message}
 use Rattle.rows.specs.declared.row.Row.{Row}

@@ -6,7 +6,7 @@ use Rattle.cells.specs.declared.cell.Cell.{Cell}
 use Rattle.cells.specs.declared.cell.Identity.{Identity}
 use Rattle.cells.specs.File.{identities}
 use Rattle.rows.specs.declared.row.Row.{Row}
-use Rattle.site.specs.Model.{Model, Sound}
+use Rattle.site.specs.Model.{Model}
 use Rattle.site.specs.Events.{Event}
 use Rattle.book.specs.Told.{Booked, booked, told}
 use Rattle.book.specs.Book.{book_after, added, overflowed, is_emptied, on_channel}

@@ -1,8 +1,7 @@
 -- Runs of calls from a table and a site just made.
-use Rattle.std.specs.Prelude.{◌≡◌, ℕ, ◌<◌, ◌≤◌, Bool, false, List, [], ◌∷◌, map, length, None}
+use Rattle.std.specs.Prelude.{◌≡◌, ◌<◌, ◌≤◌, false, List, [], ◌∷◌, map, length, None}
 use Rattle.cells.specs.declared.cell.Cell.{Cell}
 use Rattle.cells.specs.File.{Apart}
-use Rattle.rows.specs.declared.row.Row.{Row}
 use Rattle.site.specs.Model.{Model, New}
 use Rattle.site.specs.Events.{Event}
 use Rattle.law.specs.State.{State}

@@ -1,17 +1,17 @@
 -- The laws of the Cell List.
-use Rattle.std.proofs.Common.{◌≡◌, ℕ, ◌+◌, ◌<◌, ◌≤◌, Bool, true, false, cond, ◌&&◌, ◌||◌, eqb, ltb, ◌⊎◌, List, [], ◌∷◌, ◌++◌, length, get_or, take, Ok, Err, Result, sym, refl, ap, ◌∙◌, subst, inl, inr, append_assoc, arith}
+use Rattle.std.proofs.Common.{◌≡◌, ℕ, ◌+◌, ◌<◌, ◌≤◌, true, false, cond, ◌&&◌, ◌||◌, eqb, ltb, List, [], ◌∷◌, ◌++◌, length, get_or, take, Ok, Err, Result, sym, refl, ap, ◌∙◌, subst, inl, inr, arith}
 use Rattle.std.proofs.lemmas.Bool.{eqb-true, ltb-true, lt-ltb, eq-eqb, and_parts, and_right, cond-false, cases_Bool}
 use Rattle.elements.specs.declared.faults.ElementFault.{ElementFault}
 use Rattle.elements.specs.declared.faults.ElementFault.TheVariants.{OutOfRange}
-use Rattle.elements.specs.Octets.{Octets, two, then}
+use Rattle.elements.specs.Octets.{Octets, then}
 use Rattle.elements.specs.Codec.{BodyLaws}
-use Rattle.elements.proofs.Standing.{when_ok, cond_was, then_ok, same_ok, not_ok, octet_stands, Stands}
+use Rattle.elements.proofs.Standing.{when_ok, cond_was, then_ok, same_ok, not_ok, octet_stands}
 use Rattle.lists.specs.Cells.{form_of}
-use Rattle.lists.specs.Entries.{Entry, entry_fits, spell_entries}
+use Rattle.lists.specs.Entries.{Entry, spell_entries}
 use Rattle.lists.specs.Kinds.{cell_kind}
-use Rattle.lists.specs.Lists.{end_of, read_list, list_octets, lengthed, list_fits}
+use Rattle.lists.specs.Lists.{end_of, read_list, lengthed}
 use Rattle.lists.specs.CellLists.{CellsV, all, named, as_named, read_cells, cells_octets, cells_fit, cell_list}
-use Rattle.lists.proofs.Back.{Fit, fit}
+use Rattle.lists.proofs.Back.{fit}
 use Rattle.lists.proofs.ListLaws.{end_was, lengthed_stands, list_forth, end_back, third, list_back_all, placed}
 
 abbrev Spelt : List ℕ → ℕ → CellsV × ℕ → Type 0

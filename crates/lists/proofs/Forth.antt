@@ -1,15 +1,14 @@
 -- What is read, spelt, is what stands there.
-use Rattle.std.proofs.Common.{◌≡◌, ℕ, zero, suc, ◌+◌, ◌-◌, ◌*◌, ◌<◌, ◌≤◌, Bool, true, false, cond, ◌&&◌, eqb, ltb, leb, ◌⊎◌, List, [], ◌∷◌, ◌++◌, length, get_or, take, drop, Some, None, Ok, Err, Option, Result, sym, refl, ap, ◌∙◌, subst, inl, inr, append_assoc, append-nil, arith, length-drop}
+use Rattle.std.proofs.Common.{◌≡◌, ℕ, zero, suc, ◌+◌, ◌-◌, ◌<◌, ◌≤◌, Bool, true, false, eqb, ltb, List, [], ◌∷◌, ◌++◌, length, get_or, take, drop, Some, None, Ok, Option, Result, sym, refl, ap, ◌∙◌, subst, inl, inr, append_assoc, append-nil, arith, length-drop}
 use Rattle.std.proofs.lemmas.Bool.{leb-true, eqb-true, ltb-true, ltb-false, eq-eqb, and_from}
 use Rattle.std.proofs.lemmas.List.{length-take-le}
 use Rattle.std.specs.List.{AllByRecursion as All}
 use Rattle.elements.specs.declared.faults.EntryFault.{EntryFault}
-use Rattle.elements.specs.Octets.{Octets, two, two_at, then}
+use Rattle.elements.specs.Octets.{Octets}
 use Rattle.elements.proofs.Standing.{when_ok, cond_was, then_ok, same_ok, not_ok, Stands, joins, octet_stands, two_stands, part_stands}
 use Rattle.lists.specs.declared.cell.CellIdentity.{CellIdentity}
-use Rattle.lists.specs.declared.cell.CellIdentity.TheVariants as cell
 use Rattle.lists.specs.Cells.{form_of, cell_octets, read_cell}
-use Rattle.lists.specs.Entries.{Entry, Kind, spell_entry, spell_entries, read_tail, checked, read_entry, read_entries, form_at, own_form, before, formed, unflawed}
+use Rattle.lists.specs.Entries.{Entry, Kind, spell_entry, spell_entries, read_tail, checked, read_entry, read_entries, form_at, own_form, formed, unflawed}
 use Rattle.lists.specs.Laws.{EntryFits, ReadThenSpelt}
 use Rattle.lists.proofs.Steps.{before_ok}
 

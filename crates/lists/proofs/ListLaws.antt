@@ -1,21 +1,20 @@
 -- The laws of a list element, for every kind.
-use Rattle.std.proofs.Common.{◌≡◌, ℕ, zero, suc, ◌+◌, ◌-◌, ◌<◌, ◌≤◌, Bool, true, false, cond, ◌&&◌, eqb, ltb, leb, ◌⊎◌, List, [], ◌∷◌, ◌++◌, length, get_or, take, Ok, Err, Result, sym, refl, ap, ◌∙◌, subst, inl, inr, append_assoc, append-nil, le_refl, arith, length-append}
+use Rattle.std.proofs.Common.{◌≡◌, ℕ, ◌+◌, ◌<◌, ◌≤◌, Bool, true, false, List, [], ◌∷◌, ◌++◌, length, get_or, take, Ok, Result, sym, refl, ap, ◌∙◌, subst, append_assoc, append-nil, le_refl, arith, length-append}
 use Rattle.std.proofs.lemmas.Bool.{eqb-true, ltb-true, leb-true, le-leb, lt-ltb, eq-eqb, and_parts, and_from}
 use Rattle.std.proofs.lemmas.List.{take-take, take_at, get_or-append-add, length-take-le}
-use Rattle.std.specs.List.{flat_map, AllByRecursion as All}
+use Rattle.std.specs.List.{AllByRecursion as All}
 use Rattle.elements.specs.declared.faults.EntryFault.{EntryFault}
 use Rattle.elements.specs.declared.faults.ElementFault.{ElementFault}
 use Rattle.elements.specs.Faults.{out_of_range}
 use Rattle.elements.specs.Octets.{Octets, two, two_at, then, raised}
-use Rattle.elements.specs.Elements.{within}
 use Rattle.elements.specs.Codec.{BodyLaws}
-use Rattle.elements.proofs.Standing.{when_ok, cond_was, then_ok, same_ok, not_ok, raised_ok, two_stands, octet_stands, Stands, two_here, octets_take}
+use Rattle.elements.proofs.Standing.{when_ok, then_ok, same_ok, not_ok, raised_ok, two_stands, octet_stands, Stands, two_here, octets_take}
 use Rattle.lists.specs.Cells.{form_of}
 use Rattle.lists.specs.Entries.{Entry, Kind, formed, entry_fits, spell_entry, spell_entries, read_entries}
 use Rattle.lists.specs.Laws.{EntryFits}
 use Rattle.lists.specs.Lists.{end_of, heading, some, read_body, read_list, head_form, led_by, list_octets, lengthed, every, list_fits, entry_list}
 use Rattle.lists.proofs.Forth.{entries_forth}
-use Rattle.lists.proofs.Back.{entries_back, entry_some, Fit, fit}
+use Rattle.lists.proofs.Back.{entries_back, entry_some, fit}
 
 pub end_was :
     (os : List ℕ) (at body end : ℕ) → end_of os at body ≡ Ok end → (body + 2 ≤ length os) × (body + 2 + two_at os body ≡ end) × (end ≤ length os)

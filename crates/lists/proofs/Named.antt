@@ -1,12 +1,12 @@
 -- Lists whose entries all name their cell by location area code and cell identity: they fit, and each entry has one width.
-use Rattle.std.proofs.Common.{◌≡◌, ℕ, suc, ◌+◌, ◌*◌, ◌≤◌, Bool, true, false, ◌&&◌, List, [], ◌∷◌, ◌++◌, length, sym, refl, ap, ◌∙◌, subst, add-mul, arith, length-append}
+use Rattle.std.proofs.Common.{◌≡◌, ℕ, suc, ◌+◌, ◌*◌, ◌≤◌, Bool, true, false, List, [], ◌∷◌, length, sym, refl, ap, ◌∙◌, subst, add-mul, arith, length-append}
 use Rattle.std.proofs.lemmas.Bool.{and_from, eq-eqb, le-leb}
-use Rattle.std.specs.List.{flat_map, AllByRecursion as All}
+use Rattle.std.specs.List.{AllByRecursion as All}
 use Rattle.lists.specs.declared.cell.CellIdentity.{CellIdentity}
 use Rattle.lists.specs.declared.cell.CellIdentity.TheVariants as cell
 use Rattle.lists.specs.Cells.{form_of, cell_octets}
-use Rattle.lists.specs.Entries.{Entry, Kind, Sound, formed, entry_fits, own_form, spell_entry, spell_entries, unflawed}
-use Rattle.lists.specs.Lists.{head_form, every, list_fits}
+use Rattle.lists.specs.Entries.{Entry, Kind, Sound, formed, entry_fits, own_form, spell_entry, spell_entries}
+use Rattle.lists.specs.Lists.{every, list_fits}
 
 -- an entry of the kind by location area code and cell identity
 pub record ByName (k : Kind) (e : Entry) : Type 0 where

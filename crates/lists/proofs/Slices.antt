@@ -1,5 +1,5 @@
 -- The first of a slice's entries, and the others.
-use Rattle.std.proofs.Common.{◌≡◌, ℕ, suc, ◌+◌, ◌-◌, List, [], ◌∷◌, map, length, get_or, take, drop, sym, refl, ap, ◌∙◌, le_refl, arith}
+use Rattle.std.proofs.Common.{◌≡◌, ◌+◌, ◌-◌, List, [], ◌∷◌, map, length, get_or, take, drop, sym, refl, ap, le_refl, arith}
 use Rattle.std.proofs.lemmas.List.{take_all}
 use Rattle.lists.specs.Entries.{Entry}
 

@@ -1,5 +1,5 @@
 -- Short lists by their elements.
-use Rattle.std.proofs.Common.{◌≡◌, ℕ, ◌+◌, ◌*◌, ◌/◌, ◌%◌, ◌<◌, List, [], ◌∷◌, ◌++◌, length, get_or, Some, None, sym, refl, ap, ◌∙◌, arith}
+use Rattle.std.proofs.Common.{◌≡◌, ℕ, ◌<◌, List, [], ◌∷◌, ◌++◌, length, get_or, Some, refl, ap, ◌∙◌, arith}
 use Rattle.elements.specs.Octets.{two, two_at}
 use Rattle.elements.proofs.Standing.{two_octets}
 use Rattle.elements.proofs.Codings.{step, last}

@@ -1,11 +1,8 @@
 -- A list measured entry by entry.
-use Rattle.std.proofs.Common.{◌≡◌, ℕ, suc, ◌+◌, ◌*◌, ◌<◌, ◌≤◌, Bool, true, false, cond, ◌&&◌, eqb, leb, List, [], ◌∷◌, ◌++◌, length, Some, None, Option, sym, refl, ap, ◌∙◌, subst, append_assoc, append-nil, arith, length-append}
+use Rattle.std.proofs.Common.{◌≡◌, ℕ, suc, ◌+◌, ◌*◌, ◌<◌, ◌≤◌, Bool, true, false, cond, ◌&&◌, leb, List, [], ◌∷◌, ◌++◌, length, Some, None, sym, refl, ap, ◌∙◌, subst, append_assoc, append-nil, arith, length-append}
 use Rattle.std.proofs.lemmas.Bool.{and_from, and_left, and_right, le-leb, lt-leb, eq-eqb}
 use Rattle.std.proofs.lemmas.List.{flat_map_more}
-use Rattle.std.specs.List.{flat_map}
-use Rattle.elements.specs.Elements.{within}
-use Rattle.elements.proofs.Progress.{joined_append}
-use Rattle.lists.specs.Entries.{Entry, Kind, Sound, formed, entry_fits, spell_entry, spell_entries, unflawed}
+use Rattle.lists.specs.Entries.{Entry, Kind, Sound, formed, entry_fits, spell_entry, spell_entries}
 use Rattle.lists.specs.Cells.{form_of}
 use Rattle.lists.specs.Lists.{head_form, led_by, list_octets, every, list_fits}
 use Rattle.lists.specs.Measures.{list_width}

@@ -1,12 +1,12 @@
 -- The Cell List: all cells, which has no entries, or those of its entries.
-use Rattle.std.specs.Prelude.{◌≡◌, ℕ, ◌+◌, Bool, true, false, cond, ◌&&◌, List, [], ◌∷◌, ◌++◌, Ok, Err, Result, ◌==◌, nat_lt, slice_index}
+use Rattle.std.specs.Prelude.{ℕ, ◌+◌, Bool, true, cond, ◌&&◌, List, [], ◌∷◌, Ok, Err, Result, ◌==◌, nat_lt, slice_index}
 use Rattle.elements.specs.declared.faults.ElementFault.{ElementFault}
 use Rattle.elements.specs.declared.faults.ElementFault.TheVariants.{OutOfRange}
 use Rattle.elements.specs.Octets.{then}
 use Rattle.elements.specs.Codec.{Body}
 use Rattle.lists.specs.declared.cells.Cells.{Cells}
 use Rattle.lists.specs.declared.cells.Cells.TheVariants.{All, Named}
-use Rattle.lists.specs.Entries.{Entry, Kind}
+use Rattle.lists.specs.Entries.{Entry}
 use Rattle.lists.specs.Kinds.{cell_kind, cell_meant}
 use Rattle.lists.specs.Listed.{listed, Whole}
 use Rattle.lists.specs.Lists.{end_of, read_list, list_octets, lengthed, list_fits}

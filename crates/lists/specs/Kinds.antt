@@ -1,5 +1,5 @@
 -- The three kinds of list.
-use Rattle.std.specs.Prelude.{◌≡◌, ℕ, Bool, true, false, cond, ◌||◌, List, [], ◌∷◌, ◌++◌, Some, None, Option, ◌==◌, slice_index, refl}
+use Rattle.std.specs.Prelude.{◌≡◌, ℕ, true, false, cond, ◌||◌, [], ◌∷◌, ◌++◌, Some, None, Option, ◌==◌, slice_index, refl}
 use Rattle.elements.specs.declared.cause.Cause.{Cause}
 use Rattle.elements.specs.declared.cause.Cause.TheVariants as cause
 use Rattle.elements.specs.Codes.{cause_code, cause_of}

@@ -1,5 +1,5 @@
 -- The entries that a list has still to give, and what its readers answer.
-use Rattle.std.specs.Prelude.{◌≡◌, ℕ, ◌+◌, List, [], ◌∷◌, map, length, take, Some, None, Ok, Err, Option, Result}
+use Rattle.std.specs.Prelude.{◌≡◌, ℕ, ◌+◌, List, [], ◌∷◌, map, length, Some, None, Ok, Err, Option, Result}
 use Rattle.elements.specs.declared.faults.EntryFault.{EntryFault}
 use Rattle.lists.specs.declared.entries.EntryView.{EntryView}
 use Rattle.lists.specs.declared.entries.Entries.{Entries}

@@ -1,6 +1,5 @@
 -- List elements: a length of two octets, the discriminator where the kind has it in the heading, the entries.
-use Rattle.std.specs.Prelude.{◌≡◌, ℕ, ◌+◌, Bool, true, false, cond, ◌&&◌, List, [], ◌∷◌, ◌++◌, length, take, Ok, Err, Result, nat_le, nat_lt, slice_index}
-use Rattle.elements.specs.declared.faults.EntryFault.{EntryFault}
+use Rattle.std.specs.Prelude.{ℕ, ◌+◌, Bool, true, false, cond, ◌&&◌, List, [], ◌∷◌, ◌++◌, length, take, Ok, Err, Result, nat_le, nat_lt, slice_index}
 use Rattle.elements.specs.declared.faults.ElementFault.{ElementFault}
 use Rattle.elements.specs.declared.faults.ElementFault.TheVariants.{RunsPast, OutOfRange}
 use Rattle.elements.specs.Faults.{out_of_range}

@@ -1,9 +1,9 @@
 -- Worked examples, over the definitions that the calls' contracts use. Octets are hexadecimal.
-use Rattle.std.specs.Prelude.{◌≡◌, ℕ, true, false, List, [], ◌∷◌, Some, None, Ok, Err, Result}
+use Rattle.std.specs.Prelude.{◌≡◌, ℕ, true, false, [], ◌∷◌, Some, None, Ok, Err}
 use Rattle.cbsp.specs.declared.channel.Channel.TheVariants.{Basic}
 use Rattle.cbsp.specs.KeepAlive.{seconds_of}
 use Rattle.elements.specs.declared.broadcast.BroadcastType.TheVariants.{Ordinary}
-use Rattle.elements.specs.declared.cause.Cause.TheVariants.{ParameterNotRecognised, ParameterValueInvalid, MessageReferenceNotIdentified, MissingMandatoryElement}
+use Rattle.elements.specs.declared.cause.Cause.TheVariants.{ParameterNotRecognised, ParameterValueInvalid, MissingMandatoryElement}
 use Rattle.elements.specs.declared.faults.Fault.{Fault}
 use Rattle.elements.specs.declared.faults.Layer.TheVariants as layer
 use Rattle.elements.specs.declared.recovery.Recovery.TheVariants.{Available}
@@ -14,9 +14,9 @@ use Rattle.lists.specs.declared.cell.CellIdentity.TheVariants.{LacCi, Ci}
 use Rattle.lists.specs.Entries.{Entry}
 use Rattle.lists.specs.CellLists.{CellsV, all, named}
 use Rattle.cbsp.specs.PageParameter.{page_parameter}
-use Rattle.requests.specs.Requests.{RequestV, ReferenceV, kill, reset, keep_alive, read_request}
-use Rattle.answers.specs.Answers.{AnswerV, kill_failure, reset_complete, restart, keep_alive_complete}
-use Rattle.messages.specs.Messages.{MessageV, request, answer, read_message, spell, spell_error}
+use Rattle.requests.specs.Requests.{ReferenceV, kill, reset, keep_alive, read_request}
+use Rattle.answers.specs.Answers.{kill_failure, reset_complete, restart, keep_alive_complete}
+use Rattle.messages.specs.Messages.{request, answer, read_message, spell, spell_error}
 
 -- the cell of a location area code and a cell identity, with nothing after it
 abbrev cell_of : CellIdentity → Entry

@@ -1,5 +1,5 @@
 -- Marks that are set one after the other.
-use Rattle.std.proofs.Common.{◌≡◌, ℕ, zero, suc, ◌+◌, ◌<◌, Bool, true, false, cond, eqb, List, [], ◌∷◌, length, get_or, set, replicate, sym, refl, subst, le_of_suc-le-suc, not-suc-le-zero, arith}
+use Rattle.std.proofs.Common.{◌≡◌, ℕ, zero, suc, ◌+◌, ◌<◌, true, eqb, List, [], ◌∷◌, length, get_or, set, replicate, sym, refl, subst, le_of_suc-le-suc, not-suc-le-zero, arith}
 use Rattle.naming.specs.Marks.{clear_marks}
 
 pub fewer_at : (ms : List ℕ) (k : ℕ) → k < length ms → get_or ms k 0 ≡ 0 → clear_marks (set ms k 1) + 1 ≡ clear_marks ms

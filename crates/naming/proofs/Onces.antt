@@ -1,5 +1,5 @@
 -- The cells that a list names are there, and each comes once.
-use Rattle.std.proofs.Common.{◌≡◌, ℕ, ◌+◌, ◌<◌, ◌≤◌, Bool, true, false, cond, ltb, ◌⊎◌, List, [], ◌∷◌, ◌++◌, length, get_or, set, replicate, fold, sym, refl, ap, ◌∙◌, subst, inl, inr, arith}
+use Rattle.std.proofs.Common.{◌≡◌, ℕ, ◌+◌, ◌<◌, ◌≤◌, Bool, true, false, cond, ltb, ◌⊎◌, List, [], ◌∷◌, ◌++◌, length, set, replicate, fold, sym, refl, ap, ◌∙◌, subst, inl, inr, arith}
 use Rattle.std.specs.List.{AllByRecursion as All}
 use Rattle.std.proofs.ByRecursion.{All-push, All-weaker}
 use Rattle.std.proofs.lemmas.Bool.{cases_eq, cases_lt, and_right, le-ltb, both_ways}
@@ -10,7 +10,7 @@ use Rattle.naming.specs.declared.naming.Naming.{Naming}
 use Rattle.naming.specs.declared.naming.Naming.TheVariants as naming
 use Rattle.naming.specs.Marks.{is_clear}
 use Rattle.naming.specs.Names.{is_found, names_only_first, names_from, names}
-use Rattle.naming.specs.Namings.{Stage, stage, noted, is_some, entered, namings, IsThere, cells_in, Once, Sound}
+use Rattle.naming.specs.Namings.{Stage, stage, noted, is_some, entered, IsThere, cells_in, Once, Sound}
 
 -- what an entry names is there
 pub names_there : (e : CellIdentity) (n m : ℕ) (cs : List Cell) → n + length cs ≡ m → All (λ k. k < m) (names_from e n cs)

@@ -1,6 +1,6 @@
 -- What comes of the entries of a Cell List: entries in list order, the cells of an entry in the order of their numbers, each cell at its
 -- first naming only.
-use Rattle.std.specs.Prelude.{◌≡◌, ℕ, ◌<◌, Bool, true, false, cond, List, [], ◌∷◌, ◌++◌, map, length, replicate, fold, ◌≢◌, slice_set}
+use Rattle.std.specs.Prelude.{ℕ, ◌<◌, Bool, true, false, cond, List, [], ◌∷◌, ◌++◌, map, length, replicate, fold, ◌≢◌, slice_set}
 use Rattle.std.specs.List.{AllByRecursion as All}
 use Rattle.cells.specs.declared.cell.Cell.{Cell}
 use Rattle.lists.specs.declared.cell.CellIdentity.{CellIdentity}

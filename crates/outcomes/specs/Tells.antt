@@ -1,10 +1,8 @@
 -- What came of a request over a list, told cell by cell: each cell at most once, and by its outcome alone.
-use Rattle.std.specs.Prelude.{◌≡◌, ℕ, ◌+◌, ◌<◌, ◌≤◌, Bool, true, false, cond, List, [], ◌∷◌, ◌++◌, length, Some, None, Option, ◌==◌, slice_index_or}
-use Rattle.std.specs.List.{AllByRecursion as All}
+use Rattle.std.specs.Prelude.{◌≡◌, ℕ, ◌+◌, ◌<◌, ◌≤◌, Bool, false, cond, List, [], ◌∷◌, ◌++◌, length, Some, None, Option, ◌==◌, slice_index_or}
 use Rattle.cells.specs.declared.cell.Cell.{Cell}
 use Rattle.elements.specs.declared.cause.Cause.{Cause}
 use Rattle.lists.specs.CellLists.{CellsV}
-use Rattle.lists.specs.declared.cell.CellIdentity.{CellIdentity}
 use Rattle.naming.specs.declared.naming.Naming.{Naming}
 use Rattle.naming.specs.declared.naming.Naming.TheVariants as naming
 use Rattle.naming.specs.Names.{names}

@@ -1,16 +1,16 @@
 -- The laws of a page, and of so many equal elements after their number.
-use Rattle.std.proofs.Common.{◌≡◌, ℕ, zero, suc, ◌+◌, ◌-◌, ◌<◌, ◌≤◌, Bool, true, false, cond, ◌&&◌, eqb, leb, List, [], ◌∷◌, ◌++◌, length, get_or, take, drop, Ok, Err, Result, sym, refl, ap, ◌∙◌, subst, append_assoc, append-nil, le_refl, arith, length-append, length-drop}
+use Rattle.std.proofs.Common.{◌≡◌, ℕ, zero, suc, ◌+◌, ◌-◌, ◌≤◌, true, eqb, leb, List, [], ◌∷◌, ◌++◌, length, get_or, take, drop, Ok, Err, Result, sym, refl, ap, ◌∙◌, subst, append_assoc, append-nil, le_refl, arith, length-append, length-drop}
 use Rattle.std.proofs.lemmas.Bool.{leb-true, le-leb, eq-eqb, eqb-true, and_parts, and_from}
 use Rattle.std.proofs.lemmas.List.{get_or_at, take_at, drop_at, length_push, length-take-le}
 use Rattle.std.specs.List.{flat_map}
 use Rattle.elements.specs.declared.faults.Fault.{Fault}
 use Rattle.elements.specs.Octets.{Octets, then}
 use Rattle.elements.specs.Elements.{within}
-use Rattle.elements.specs.Codec.{Codec, Lawful, BodyLaws}
-use Rattle.elements.proofs.Standing.{when_ok, then_ok, same_ok, not_ok, Stands, joins, octet_stands, part_stands}
+use Rattle.elements.specs.Codec.{Codec, Lawful}
+use Rattle.elements.proofs.Standing.{when_ok, then_ok, same_ok, not_ok, joins, octet_stands, part_stands}
 use Rattle.elements.proofs.Laws.{lawful_element}
 use Rattle.pages.specs.declared.page.Page.{Page}
-use Rattle.pages.specs.Pages.{page_at, read_page, page_body, page, ahead, read_times, each, repeated}
+use Rattle.pages.specs.Pages.{read_page, page_body, page, ahead, read_times, each, repeated}
 
 -- a page
 page_forth :

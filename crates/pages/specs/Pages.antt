@@ -1,5 +1,5 @@
 -- Message Content: an identifier, a length of 1 to 82, 82 octets of content.
-use Rattle.std.specs.Prelude.{◌≡◌, ℕ, zero, suc, ◌+◌, Bool, true, false, cond, ◌&&◌, List, [], ◌∷◌, ◌++◌, length, take, drop, Some, None, Ok, Err, Option, Result, ◌==◌, nat_le, slice_index}
+use Rattle.std.specs.Prelude.{◌≡◌, ℕ, zero, suc, ◌+◌, Bool, true, cond, ◌&&◌, List, [], ◌∷◌, ◌++◌, length, take, drop, Some, None, Ok, Err, Option, Result, ◌==◌, nat_le, slice_index}
 use Rattle.std.specs.List.{flat_map}
 use Rattle.elements.specs.declared.faults.ElementFault.{ElementFault}
 use Rattle.elements.specs.declared.faults.ElementFault.TheVariants.{RunsPast, OutOfRange}
@@ -8,7 +8,6 @@ use Rattle.elements.specs.Octets.{then}
 use Rattle.elements.specs.Elements.{within}
 use Rattle.elements.specs.Codec.{Codec, Body, element}
 use Rattle.pages.specs.declared.page.Page.{Page}
-use Rattle.pages.specs.declared.pages.PageView.{PageView}
 use Rattle.pages.specs.declared.pages.Pages.{Pages}
 use Rattle.pages.specs.declared.pages.Pages.TheVariants.{Read, Given}
 

@@ -1,6 +1,5 @@
 -- The lists of a reply, from what came of a request.
 use Rattle.std.specs.Prelude.{ℕ, cond, List, [], ◌∷◌, Some, None, Option, nat_lt}
-use Rattle.cells.specs.declared.cell.Capability.TheVariants.{NoChannel}
 use Rattle.cells.specs.declared.cell.Cell.{Cell}
 use Rattle.cells.specs.File.{identities}
 use Rattle.elements.specs.declared.cause.Cause.{Cause}

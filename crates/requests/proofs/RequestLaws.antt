@@ -1,10 +1,10 @@
 -- The laws of the requests.
-use Rattle.std.proofs.Common.{◌≡◌, ℕ, ◌≤◌, true, List, [], ◌∷◌, ◌++◌, length, get_or, take, Some, None, Ok, Err, Option, sym, refl, ap, ◌∙◌, arith}
+use Rattle.std.proofs.Common.{◌≡◌, ℕ, ◌≤◌, true, List, [], length, get_or, Some, None, Ok, Option, refl, arith}
 use Rattle.cbsp.specs.declared.message_type.MessageType.{MessageType}
 use Rattle.cbsp.specs.declared.message_type.MessageType.TheVariants as type
 use Rattle.cbsp.specs.Types.{type_code, type_of}
 use Rattle.elements.specs.Octets.{Octets}
-use Rattle.elements.specs.Codec.{Codec, Lawful}
+use Rattle.elements.specs.Codec.{Lawful}
 use Rattle.elements.specs.Parts.{keep_alive_period, number_of_pages, coding_scheme}
 use Rattle.elements.specs.Whole.{headed}
 use Rattle.elements.proofs.Standing.{not_ok}

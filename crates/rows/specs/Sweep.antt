@@ -1,5 +1,5 @@
 -- What a period does with the messages of a cell, and in which order they are offered to the site.
-use Rattle.std.specs.Prelude.{◌≡◌, ℕ, ◌+◌, ◌-◌, Bool, true, false, cond, ◌&&◌, ◌||◌, List, ◌==◌, nat_lt}
+use Rattle.std.specs.Prelude.{◌≡◌, ℕ, ◌+◌, ◌-◌, Bool, cond, ◌&&◌, ◌||◌, List, ◌==◌, nat_lt}
 use Rattle.site.specs.Model.{Model}
 use Rattle.site.specs.Events.{Event, Goes}
 use Rattle.site.specs.Events.Event.{offered}

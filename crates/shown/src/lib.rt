@@ -2,7 +2,7 @@
 #![tactic(auto)]
 
 pub mod content;
-pub mod elements;
+pub mod element_lines;
 pub mod lists;
 pub mod names;
 pub mod octets;

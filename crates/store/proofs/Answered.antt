@@ -1,5 +1,5 @@
 -- Replies from the lists that were worked out can be spelt.
-use Rattle.std.proofs.Common.{◌≡◌, ◌≤◌, true, leb, List, map, length, sym, ap, ◌∙◌, subst}
+use Rattle.std.proofs.Common.{◌≡◌, ◌≤◌, true, leb, length, sym, ap, ◌∙◌, subst}
 use Rattle.std.proofs.lemmas.Bool.{and_parts, leb-true}
 use Rattle.answers.specs.Answers.{AnswerV}
 use Rattle.answering.specs.Fitting.{Spelt}

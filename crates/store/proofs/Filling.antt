@@ -1,5 +1,5 @@
 -- A content in its slot.
-use Rattle.std.proofs.Common.{◌≡◌, ℕ, ◌≤◌, List, map, length, set, Some, None, Option, sym, refl}
+use Rattle.std.proofs.Common.{◌≡◌, ℕ, ◌≤◌, List, map, length, set, Some, Option, sym, refl}
 use Rattle.std.proofs.lemmas.List.{length-map, map-set, set_past}
 use Rattle.rows.specs.declared.content.Content.{Content}
 use Rattle.rows.specs.Texts.{Text, text_of}

@@ -1,5 +1,5 @@
 -- A vector that is filled from a slice, element by element.
-use Rattle.std.proofs.Common.{◌≡◌, ℕ, ◌+◌, ◌<◌, ◌≤◌, List, [], ◌∷◌, ◌++◌, map, length, get_or, take, sym, refl, ap, ◌∙◌}
+use Rattle.std.proofs.Common.{◌≡◌, ℕ, ◌+◌, ◌<◌, ◌≤◌, List, [], ◌∷◌, ◌++◌, map, length, get_or, take, refl}
 use Rattle.std.proofs.lemmas.List.{map_push, take_more, take_all}
 
 -- one more: the vector's elements are, or mean, f of the first i elements of the slice

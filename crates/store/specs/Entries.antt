@@ -1,5 +1,4 @@
 -- A cell as a Cell List names it.
-use Rattle.std.specs.Prelude.{List, map}
 use Rattle.cells.specs.declared.cell.Cell.{Cell}
 use Rattle.lists.specs.declared.cell.CellIdentity.TheVariants.{LacCi}
 use Rattle.lists.specs.declared.kinds.CellEntry.{CellEntry}

@@ -9,10 +9,10 @@ use replies::work::Work;
 use rows::content::Content;
 use rows::rows::Rows;
 
+mod asked;
 mod filling;
 mod handling;
 mod making;
-mod requests;
 mod serving;
 
 // All memory is reserved when it is made. `entries` are the cells as a Cell List names them.

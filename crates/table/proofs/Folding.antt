@@ -7,7 +7,7 @@ use Rattle.std.proofs.lemmas.List.{at_drop_more, at_drop_all}
 use Rattle.rows.specs.declared.row.Row.{Row}
 use Rattle.table.specs.declared.outcome.Outcome.{Outcome}
 use Rattle.naming.specs.Namings.{IsThere}
-use Rattle.table.specs.Handling.{Stage, stage}
+use Rattle.table.specs.Handling.{stage}
 
 module _ {X Y : Type 0} (f : Y → X → Y) (s start : Y) (xs : List X) (i : ℕ) (inv : fold f s (drop i xs) ≡ fold f start xs) where
   pub fold_more : (d : X) (t : Y) → i < length xs → t ≡ f s (get_or xs i d) → fold f t (drop (i + 1) xs) ≡ fold f start xs

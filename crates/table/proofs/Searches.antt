@@ -1,5 +1,5 @@
 -- The search for a free slot, step by step.
-use Rattle.std.proofs.Common.{◌≡◌, ℕ, suc, ◌+◌, ◌-◌, ◌<◌, ◌≤◌, Bool, true, false, cond, List, Some, None, Option, sym, ap, ◌∙◌, arith}
+use Rattle.std.proofs.Common.{◌≡◌, ℕ, suc, ◌+◌, ◌-◌, ◌<◌, ◌≤◌, Bool, true, false, cond, List, Some, None, sym, ap, ◌∙◌, arith}
 use Rattle.rows.specs.declared.row.Row.{Row}
 use Rattle.table.specs.Pool.{is_used, free_from, free_slot}
 

@@ -1,12 +1,12 @@
 -- The step of WRITE-REPLACE, part by part.
-use Rattle.std.proofs.Common.{◌≡◌, ℕ, Bool, cond, List, [], ◌∷◌, ◌++◌, get_or, set, is_some, Some, None, Option, unwrap_or, sym, refl, ap, ◌∙◌}
+use Rattle.std.proofs.Common.{◌≡◌, ℕ, cond, List, [], ◌∷◌, ◌++◌, get_or, set, is_some, Some, None, Option, unwrap_or, ap, ◌∙◌}
 use Rattle.elements.specs.declared.cause.Cause.{Cause}
 use Rattle.rows.specs.declared.row.Row.{Row}
 use Rattle.table.specs.declared.outcome.Outcome.{Outcome}
 use Rattle.table.specs.declared.write.Write.{Write}
 use Rattle.table.specs.Outcomes.{outcome}
 use Rattle.table.specs.Settings.{Setting, here, replaced}
-use Rattle.table.specs.Write.{bar, barred, blocked, cut, ended_by, row_of, slot_for, cleared, slot_now, cause_now, answer_write, written, write_after}
+use Rattle.table.specs.Write.{bar, blocked, cut, ended_by, row_of, slot_for, cleared, slot_now, cause_now, answer_write, written, write_after}
 
 module _ (w : Write) (s : Setting) where
   -- what a step gives back

@@ -4,7 +4,6 @@ use Rattle.elements.specs.declared.cause.Cause.{Cause}
 use Rattle.elements.specs.declared.cause.Cause.TheVariants.{CellIdentityNotValid, LaiOrLacNotValid}
 use Rattle.lists.specs.declared.cell.CellIdentity.{CellIdentity}
 use Rattle.lists.specs.declared.cell.CellIdentity.TheVariants.{LacCi, Ci, Lac, All}
-use Rattle.naming.specs.declared.naming.Naming.{Naming}
 use Rattle.naming.specs.declared.naming.Naming.TheVariants as naming
 use Rattle.table.specs.declared.outcome.Outcome.{Outcome}
 

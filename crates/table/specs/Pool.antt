@@ -1,5 +1,5 @@
 -- Which contents are in use, told from the messages alone: a slot is free when no cell has a message with it.
-use Rattle.std.specs.Prelude.{ℕ, zero, suc, ◌+◌, Bool, true, false, cond, List, [], ◌∷◌, Some, None, Option, ◌==◌}
+use Rattle.std.specs.Prelude.{ℕ, zero, suc, ◌+◌, Bool, cond, List, Some, None, Option, ◌==◌}
 use Rattle.rows.specs.declared.row.Row.{Row}
 use Rattle.rows.specs.Keys.{any_of}
 

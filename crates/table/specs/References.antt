@@ -1,13 +1,12 @@
 -- What KILL, MESSAGE STATUS QUERY and RESET come to in one cell.
-use Rattle.std.specs.Prelude.{ℕ, cond, List, [], Some, None, Option}
-use Rattle.elements.specs.declared.cause.Cause.{Cause}
+use Rattle.std.specs.Prelude.{ℕ, List, [], Some, None, Option}
 use Rattle.elements.specs.declared.cause.Cause.TheVariants.{MessageReferenceNotIdentified}
 use Rattle.rows.specs.declared.row.Row.{Row}
 use Rattle.rows.specs.declared.key.Key.{Key}
 use Rattle.rows.specs.Keys.{is_same, first_of, without}
 use Rattle.table.specs.declared.outcome.Outcome.{Outcome}
 use Rattle.table.specs.Outcomes.{outcome}
-use Rattle.table.specs.Settings.{Setting, here, replaced, count_of}
+use Rattle.table.specs.Settings.{Setting, here, replaced}
 
 -- the count of the message that is the same, or that there is none
 abbrev pub counted : ℕ → Option Row → Outcome

@@ -1,5 +1,5 @@
 -- What a request finds when it comes to a cell.
-use Rattle.std.specs.Prelude.{ℕ, Bool, true, false, cond, List, [], ◌∷◌, ◌++◌, Some, None, Option, slice_index_or, slice_set}
+use Rattle.std.specs.Prelude.{ℕ, Bool, List, [], Some, None, Option, slice_index_or, slice_set}
 use Rattle.cells.specs.declared.cell.Capability.{Capability}
 use Rattle.rows.specs.declared.row.Row.{Row}
 

@@ -2,7 +2,7 @@
 #![tactic(auto)]
 
 pub mod asked;
-mod cells;
+mod at_cell;
 pub mod handling;
 pub mod outcome;
 mod pool;

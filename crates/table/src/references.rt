@@ -4,7 +4,7 @@ ghost use Rattle.rows.specs.Held.{rows_of};
 ghost use Rattle.table.specs.References.{answer_reference, answer_reset, counted, emptied, killed};
 ghost use Rattle.table.specs.Settings.{setting};
 
-use crate::cells::{clear_at, rows_at, take_at};
+use crate::at_cell::{clear_at, rows_at, take_at};
 use crate::outcome::Outcome;
 use crate::request::CellRequest;
 use cells::cell::Capability;

@@ -1,5 +1,5 @@
 -- The elements one by one spell what the message spells, and fit where it fits.
-use Rattle.std.proofs.Common.{◌≡◌, ℕ, Bool, true, false, ◌&&◌, List, [], ◌∷◌, ◌++◌, Some, None, Option, sym, refl, ap, ◌∙◌, append-nil}
+use Rattle.std.proofs.Common.{◌≡◌, ℕ, Bool, true, false, ◌&&◌, List, Some, None, Option, refl, append-nil}
 use Rattle.std.specs.List.{flat_map}
 use Rattle.cbsp.specs.declared.channel.Channel.{Channel}
 use Rattle.elements.specs.Octets.{mapped}
@@ -13,8 +13,8 @@ use Rattle.requests.specs.Requests as ask
 use Rattle.answers.specs.Answers.{AnswerV, WriteCompleteV, WriteFailureV, KillCompleteV, KillFailureV, StatusCompleteV, StatusFailureV, ResetFailureV, RestartV, FailureV, ErrorV, write_completing, write_failing, kill_completing, kill_failing, status_completing, status_failing, reset_failing, restarting, failing, erring, spell_answer, answer_fits}
 use Rattle.answers.specs.Answers as tell
 use Rattle.messages.specs.Messages.{MessageV, request, answer, spell_elements, fits}
-use Rattle.writing.specs.Elements.{ElementV, number, cells, completed, spell_slot, slot_fits}
-use Rattle.writing.specs.Slots.{channel_code18, write_slots, reference_slots, write_complete_slots, write_failure_slots, kill_complete_slots, kill_failure_slots, status_complete_slots, status_failure_slots, reset_failure_slots, restart_slots, failure_slots, error_slots, one_slot, request_slots, answer_slots, message_slots}
+use Rattle.writing.specs.Elements.{number, cells, completed, spell_slot, slot_fits}
+use Rattle.writing.specs.Slots.{channel_code18, write_slots, reference_slots, write_complete_slots, write_failure_slots, kill_complete_slots, kill_failure_slots, status_complete_slots, status_failure_slots, reset_failure_slots, restart_slots, failure_slots, error_slots, request_slots, answer_slots, message_slots}
 
 and_true : (b : Bool) → (b && true) ≡ b
 and_true true = refl

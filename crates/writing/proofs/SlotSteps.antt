@@ -1,9 +1,8 @@
 -- Slots measured and written one after the other.
-use Rattle.std.proofs.Common.{◌≡◌, ℕ, zero, suc, ◌+◌, ◌<◌, ◌≤◌, Bool, true, false, cond, ◌&&◌, ◌⊎◌, List, [], ◌∷◌, ◌++◌, map, length, get_or, take, drop, Some, None, Option, sym, refl, ap, ◌∙◌, subst, inl, inr, append_assoc, append-nil, arith, length-append}
+use Rattle.std.proofs.Common.{◌≡◌, ℕ, zero, suc, ◌+◌, ◌<◌, ◌≤◌, Bool, true, false, cond, ◌&&◌, List, [], ◌∷◌, ◌++◌, map, length, get_or, take, Some, None, Option, sym, refl, ap, ◌∙◌, append-nil, arith, length-append}
 use Rattle.std.proofs.lemmas.Bool.{and_from, and_left, and_right, and_parts}
 use Rattle.std.proofs.lemmas.List.{map_more}
 use Rattle.std.specs.List.{flat_map}
-use Rattle.elements.proofs.Standing.{cond_was}
 use Rattle.elements.proofs.Progress.{joined_append}
 use Rattle.pages.specs.Pages.{each}
 use Rattle.writing.specs.Elements.{ElementV, spell_slot, slot_fits, slot_width, slots_width}

@@ -1,11 +1,11 @@
 -- A whole message written.
-use Rattle.std.proofs.Common.{◌≡◌, ℕ, zero, suc, ◌+◌, ◌<◌, ◌≤◌, Bool, true, false, ◌&&◌, leb, List, [], ◌∷◌, ◌++◌, length, get_or, take, drop, Some, None, Ok, Option, sym, refl, ap, ◌∙◌, subst, arith}
+use Rattle.std.proofs.Common.{◌≡◌, ℕ, zero, suc, ◌+◌, ◌<◌, ◌≤◌, true, false, leb, List, [], ◌∷◌, ◌++◌, length, take, drop, Some, None, Ok, Option, sym, refl, ap, ◌∙◌, subst, arith}
 use Rattle.std.proofs.lemmas.Bool.{and_from, and_left, and_right, le-leb, lt-leb}
 use Rattle.std.proofs.lemmas.List.{take_at}
 use Rattle.std.specs.List.{flat_map}
 use Rattle.cbsp.specs.declared.message_type.MessageType.{MessageType}
 use Rattle.cbsp.specs.Types.{type_code}
-use Rattle.elements.specs.Octets.{Octets, Wrote, three}
+use Rattle.elements.specs.Octets.{Octets, Wrote}
 use Rattle.elements.specs.Whole.{headed}
 use Rattle.pages.specs.Pages.{each}
 use Rattle.messages.specs.Messages.{MessageV, message_type, spell_elements, spell, fits, InRange, read_message}

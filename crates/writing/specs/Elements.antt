@@ -1,7 +1,7 @@
 -- The elements of a message one by one, each where there is one.
-use Rattle.std.specs.Prelude.{ℕ, Bool, true, false, cond, List, [], ◌∷◌, ◌++◌, length, Some, None, Option}
+use Rattle.std.specs.Prelude.{ℕ, Bool, true, cond, List, [], ◌∷◌, length, Some, None, Option}
 use Rattle.std.specs.List.{flat_map}
-use Rattle.elements.specs.Octets.{one, mapped}
+use Rattle.elements.specs.Octets.{one}
 use Rattle.elements.specs.Parts as part
 use Rattle.lists.specs.Entries.{Entry}
 use Rattle.lists.specs.CellLists.{CellsV, cells_meant}

@@ -1,5 +1,5 @@
 -- The elements of each message in order, in nine slots.
-use Rattle.std.specs.Prelude.{ℕ, List, [], ◌∷◌, Some, None, Option}
+use Rattle.std.specs.Prelude.{List, [], ◌∷◌, Some, None, Option}
 use Rattle.cbsp.specs.declared.channel.Channel.{Channel}
 use Rattle.cbsp.specs.Channels.{channel_code}
 use Rattle.elements.specs.Codes.{broadcast_code, category_code, cause_code, recovery_code}

@@ -4,7 +4,7 @@ ghost use Rattle.rows.specs.Held.{rows_of};
 ghost use Rattle.table.specs.Write.{barred, blocked, cut, ended_by, has_channel, key_in, lacks, row_of, slot_for, supports};
 
 use crate::asked::Asked;
-use crate::cells::take_at;
+use crate::at_cell::take_at;
 use crate::pool::free_slot;
 use cbsp::channel::Channel;
 use cells::cell::Capability;

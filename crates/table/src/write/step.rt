@@ -8,7 +8,7 @@ ghost use Rattle.table.specs.Write.{answer_write, blocked, row_of, slot_for, wri
 use super::Write;
 use super::parts::{bar, block, end_old, row_of, slot_for};
 use crate::asked::Asked;
-use crate::cells::{push_at, rows_at};
+use crate::at_cell::{push_at, rows_at};
 use crate::outcome::Outcome;
 use crate::request::CellRequest;
 use cells::cell::Capability;

@@ -1,4 +1,4 @@
-use Rattle.std.proofs.Common.{ℕ, ◌+◌, Bool, eqb, ◌∷◌, length, get_or, refl}
+use Rattle.std.proofs.Common.{ℕ, ◌+◌, Bool, eqb, ◌∷◌, get_or, refl}
 use Rattle.std.proofs.lemmas.Bool.{eqb-true}
 use Rattle.cbsp.specs.KeepAlive.{Edges, Stepped, step, times}
 use Rattle.cbsp.proofs.Tables.{at_each}

@@ -1,4 +1,4 @@
-use Rattle.std.proofs.Common.{◌+◌, ◌-◌, arith}
+use Rattle.std.proofs.Common.{arith}
 use Rattle.elements.proofs.Puts.{wrote_part}
 use Rattle.elements.proofs.octets.put_octets.Goals as goal
 

@@ -1,6 +1,5 @@
 use Rattle.std.proofs.Common.{◌+◌, ◌≤◌, length, arith}
 use Rattle.elements.specs.Octets.{two}
-use Rattle.lists.specs.Cells.{cell_octets}
 use Rattle.elements.proofs.Puts.{wrote_then}
 use Rattle.lists.proofs.cell.put_cell.Goals as goal
 

@@ -1,6 +1,6 @@
 use Rattle.std.proofs.Common.{sym, ◌∙◌, arith}
 use Rattle.lists.specs.Listed.{listed}
-use Rattle.lists.proofs.Widths.{measured_none, measured_more, measured_many, measured_unfit, measured_empty, measured_headed, measured_bare}
+use Rattle.lists.proofs.Widths.{measured_more, measured_many, measured_unfit}
 use Rattle.lists.proofs.measuring.list_width.Goals as goal
 
 pub returns-then-count-most : goal.returns-then-count-most

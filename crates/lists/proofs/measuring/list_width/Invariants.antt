@@ -1,4 +1,4 @@
-use Rattle.std.proofs.Common.{◌≡◌, ◌≤◌}
+use Rattle.std.proofs.Common.{◌≤◌}
 use Rattle.lists.specs.Listed.{listed, left_of}
 use Rattle.lists.proofs.Widths.{Measured}
 use Rattle.lists.proofs.measuring.list_width.Given as goal

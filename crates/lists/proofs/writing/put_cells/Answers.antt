@@ -1,4 +1,4 @@
-use Rattle.std.proofs.Common.{◌≡◌, ◌+◌, ◌≤◌, [], ◌∷◌, length, arith}
+use Rattle.std.proofs.Common.{◌+◌, ◌≤◌, [], ◌∷◌, length, arith}
 use Rattle.elements.specs.Octets.{two}
 use Rattle.elements.proofs.Puts.{wrote_then}
 use Rattle.lists.proofs.writing.put_cells.Goals as goal

@@ -1,5 +1,5 @@
 use Rattle.std.proofs.Common.{arith}
-use Rattle.elements.proofs.Progress.{progress_none, progress_room, progress_more, progress_all}
+use Rattle.elements.proofs.Progress.{progress_none, progress_room, progress_more}
 use Rattle.lists.specs.Entries.{spell_entry}
 use Rattle.lists.specs.Listed.{listed}
 use Rattle.lists.proofs.writing.put_entries.Goals as goal

@@ -1,4 +1,4 @@
-use Rattle.std.proofs.Common.{ℕ, length, subst, arith, length-append}
+use Rattle.std.proofs.Common.{ℕ, subst, arith, length-append}
 use Rattle.elements.specs.Octets.{Wrote}
 use Rattle.elements.proofs.Puts.{wrote_then}
 use Rattle.lists.specs.Entries.{spell_entries}

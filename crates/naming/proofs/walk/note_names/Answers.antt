@@ -1,5 +1,5 @@
-use Rattle.std.proofs.Common.{◌≡◌, ◌+◌, Bool, true, vec_items, sym, refl, ap, ◌∙◌, subst}
-use Rattle.naming.specs.Namings.{Stage, noted, stage}
+use Rattle.std.proofs.Common.{◌+◌, true, vec_items, sym, refl, ◌∙◌, subst}
+use Rattle.naming.specs.Namings.{Stage, stage}
 use Rattle.naming.proofs.Stepping.{Walked, walk_skip, walk_take, walk_last, walk_end}
 use Rattle.naming.proofs.walk.note_names.Goals as goal
 use Rattle.naming.proofs.walk.note_names.Goals.{then-is_meant+else-names_only_first, else-is_meant}

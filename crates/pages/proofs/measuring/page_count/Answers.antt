@@ -1,6 +1,6 @@
 use Rattle.std.proofs.Common.{sym, arith}
 use Rattle.pages.specs.Pages.{pages_meant}
-use Rattle.pages.proofs.Counts.{counted_none, counted_more, counted_many, counted_unfit, counted_empty, counted_all}
+use Rattle.pages.proofs.Counts.{counted_more, counted_many, counted_unfit}
 use Rattle.pages.proofs.measuring.page_count.Goals as goal
 
 pub returns-then-count-eq15 : goal.returns-then-count-eq15

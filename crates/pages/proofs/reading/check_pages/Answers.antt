@@ -1,4 +1,4 @@
-use Rattle.std.proofs.Common.{arith, rules}
+use Rattle.std.proofs.Common.{arith}
 use Rattle.std.proofs.lemmas.Result.{err_from_is_err_and}
 use Rattle.pages.proofs.Turns.{sofar_none, sofar_done, sofar_fault, sofar_more}
 use Rattle.pages.proofs.reading.check_pages.Goals as goal

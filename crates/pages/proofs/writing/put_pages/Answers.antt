@@ -1,5 +1,5 @@
 use Rattle.std.proofs.Common.{arith}
-use Rattle.elements.proofs.Progress.{progress_none, progress_room, progress_more, progress_all}
+use Rattle.elements.proofs.Progress.{progress_none, progress_room, progress_more}
 use Rattle.pages.specs.Pages.{page, pages_meant}
 use Rattle.pages.proofs.writing.put_pages.Goals as goal
 

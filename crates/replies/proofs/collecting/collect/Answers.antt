@@ -1,4 +1,4 @@
-use Rattle.std.proofs.Common.{◌≡◌, List, [], ◌∷◌, ◌++◌, length, vec_items, sym, ap, ◌∙◌, arith}
+use Rattle.std.proofs.Common.{List, ◌++◌, vec_items, ap, ◌∙◌, arith}
 use Rattle.replies.specs.Lists.{picked}
 use Rattle.replies.proofs.Picking.{pick_none, pick_some, pick_end}
 use Rattle.replies.proofs.collecting.collect.Goals as goal

@@ -1,8 +1,8 @@
-use Rattle.std.proofs.Common.{◌≡◌, ℕ, ◌≤◌, List, map, length, get_or, sym, ap, ◌∙◌, arith}
+use Rattle.std.proofs.Common.{◌≡◌, ℕ, ◌≤◌, List, map, length, get_or, sym, ap, ◌∙◌}
 use Rattle.std.proofs.lemmas.List.{get_or-map, get_or_past, length-map}
 use Rattle.site.specs.declared.message.Page.{Page}
 use Rattle.site.specs.Messages.{Aired}
-use Rattle.rows.specs.Texts.{Text, text_of, no_text, aired_for}
+use Rattle.rows.specs.Texts.{Text, text_of, no_text}
 use Rattle.rows.proofs.sweep.message_of.Goals as goal
 
 pub returns-then-slot-contents : goal.returns-then-slot-contents

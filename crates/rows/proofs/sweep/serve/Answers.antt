@@ -1,4 +1,4 @@
-use Rattle.std.proofs.Common.{◌^◌, ◌<◌, map, length, refl, arith}
+use Rattle.std.proofs.Common.{◌^◌, ◌<◌, map, refl, arith}
 use Rattle.std.proofs.lemmas.List.{take_all}
 use Rattle.rows.specs.Sweep.{Turn, lowered}
 use Rattle.rows.specs.Texts.{text_of}

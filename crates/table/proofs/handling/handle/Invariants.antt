@@ -1,4 +1,4 @@
-use Rattle.std.proofs.Common.{◌≡◌, ◌+◌, ◌-◌, map, length, drop, vec_items, vec_len, vec_capacity}
+use Rattle.std.proofs.Common.{◌≡◌, ◌+◌, map, drop, vec_items, vec_len, vec_capacity}
 use Rattle.rows.specs.Held.{rows_of}
 use Rattle.table.specs.Handling.{handled, stage}
 use Rattle.table.proofs.handling.handle.Given as goal

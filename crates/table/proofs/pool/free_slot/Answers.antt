@@ -1,4 +1,4 @@
-use Rattle.std.proofs.Common.{◌≡◌, map, arith}
+use Rattle.std.proofs.Common.{map, arith}
 use Rattle.rows.specs.Held.{rows_of}
 use Rattle.table.proofs.Searches.{free_on, free_here, free_end}
 use Rattle.table.proofs.pool.free_slot.Goals as goal

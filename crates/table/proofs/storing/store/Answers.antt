@@ -1,4 +1,4 @@
-use Rattle.std.proofs.Common.{◌≡◌, map, ◌∙◌}
+use Rattle.std.proofs.Common.{map, ◌∙◌}
 use Rattle.pages.specs.Pages.{pages_meant}
 use Rattle.rows.specs.Texts.{text_of}
 use Rattle.table.specs.Storing.{on_air}

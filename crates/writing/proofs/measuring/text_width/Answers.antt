@@ -1,5 +1,4 @@
 use Rattle.std.proofs.Common.{arith}
-use Rattle.std.proofs.lemmas.Bool.{leb-true, and_parts}
 use Rattle.pages.specs.Pages.{pages_meant}
 use Rattle.writing.proofs.Texts.{text_wide, count_few}
 use Rattle.writing.proofs.measuring.text_width.Goals as goal

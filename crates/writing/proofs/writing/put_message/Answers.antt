@@ -1,4 +1,4 @@
-use Rattle.std.proofs.Common.{◌≡◌, ℕ, [], ◌∷◌, map, length, sym, subst, arith}
+use Rattle.std.proofs.Common.{ℕ, [], ◌∷◌, map, length, sym, subst, arith}
 use Rattle.std.specs.List.{flat_map}
 use Rattle.cbsp.specs.Types.{type_code}
 use Rattle.elements.specs.Octets.{Wrote, mapped, three}

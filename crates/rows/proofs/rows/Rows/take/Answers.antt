@@ -1,5 +1,4 @@
-use Rattle.std.proofs.Common.{◌≡◌, List, Some, vec_items, sym, ap, ◌∙◌}
-use Rattle.rows.specs.declared.row.Row.{Row}
+use Rattle.std.proofs.Common.{Some, vec_items, sym, ap, ◌∙◌}
 use Rattle.rows.specs.Keys.{is_same, place_of}
 use Rattle.rows.proofs.Places.{found_at, missing}
 use Rattle.rows.proofs.rows.Rows.take.Goals as goal

@@ -1,4 +1,4 @@
-use Rattle.std.proofs.Common.{List, map, ◌∙◌}
+use Rattle.std.proofs.Common.{map, ◌∙◌}
 use Rattle.answering.proofs.Fits.{named_some, replies_fit}
 use Rattle.answering.proofs.Spelling.{reference_fits}
 use Rattle.answering.specs.Replies.{query_reply}

@@ -1,4 +1,4 @@
-use Rattle.std.proofs.Common.{List, map, vec_items, ap, ◌∙◌}
+use Rattle.std.proofs.Common.{map, vec_items, ap, ◌∙◌}
 use Rattle.answering.proofs.Fits.{named_some, replies_fit}
 use Rattle.answering.proofs.Spelling.{write_fits}
 use Rattle.answering.specs.Replies.{write_reply}

@@ -1,4 +1,4 @@
-use Rattle.std.proofs.Common.{◌≡◌, List, [], map, take, vec_items, vec_len}
+use Rattle.std.proofs.Common.{◌≡◌, [], map, take, vec_items, vec_len}
 use Rattle.rows.specs.Held.{rows_of}
 use Rattle.store.proofs.store.making.no_rows.Given as goal
 

@@ -1,4 +1,4 @@
-use Rattle.std.proofs.Common.{[], map, sym, rules}
+use Rattle.std.proofs.Common.{[], map, rules}
 use Rattle.std.proofs.lemmas.List.{set-get_or}
 use Rattle.rows.specs.Held.{rows_of}
 use Rattle.table.proofs.write.parts.end_old.Goals as goal

@@ -3,7 +3,7 @@ use Rattle.std.proofs.lemmas.Bool.{lt-ltb}
 use Rattle.rows.specs.declared.row.Row.{Row}
 use Rattle.rows.specs.Held.{rows_of}
 use Rattle.table.proofs.Places.{there, moved}
-use Rattle.table.proofs.cells.push_at.Goals as goal
+use Rattle.table.proofs.at_cell.push_at.Goals as goal
 
 pub returns : goal.returns
 returns c =

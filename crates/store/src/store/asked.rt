@@ -10,7 +10,7 @@ ghost use Rattle.table.specs.Storing.{stored};
 ghost use Rattle.store.specs.Held.{cells_held, rows_held, texts_held};
 
 use super::Store;
-use answering::replies::{kill_reply, query_reply, reset_reply, write_reply};
+use answering::replying::{kill_reply, query_reply, reset_reply, write_reply};
 use answering::sending::send;
 use requests::request::{Reference, Reset as ResetList, WriteReplace};
 use rows::key::Key;

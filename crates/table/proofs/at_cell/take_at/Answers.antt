@@ -1,7 +1,7 @@
 use Rattle.std.proofs.Common.{ap, ◌∙◌}
 use Rattle.rows.specs.Keys.{first_of, is_same, without}
 use Rattle.table.proofs.Places.{there, moved}
-use Rattle.table.proofs.cells.take_at.Goals as goal
+use Rattle.table.proofs.at_cell.take_at.Goals as goal
 
 pub returns : goal.returns
 returns c =
