@@ -3,7 +3,7 @@ use Rattle.std.proofs.Common.{◌≡◌, ℕ, ◌<◌, ◌≤◌, true, leb, Lis
 use Rattle.std.proofs.ByRecursion.{All-map}
 use Rattle.std.proofs.lemmas.List.{length-map}
 use Rattle.std.proofs.lemmas.Bool.{and_parts, leb-true}
-use Rattle.std.specs.List.{AllByRecursion as All}
+use Rattle.std.specs.List.{AllByRecursion}
 use Rattle.cells.specs.declared.cell.Cell.{Cell}
 use Rattle.elements.specs.declared.broadcast.BroadcastType.TheVariants.{Ordinary}
 use Rattle.elements.specs.declared.cause.Cause.{Cause}
@@ -50,7 +50,7 @@ module _ {cells : List Cell} {list : CellsV} {E : Outcome → List Row → List 
   some_came : 0 < length out
   some_came = t.some few (named_some list f).0
 
-all_named : (cells : List Cell) → All (λ c. ByName cell_kind (entry_of c)) cells
+all_named : (cells : List Cell) → AllByRecursion (λ c. ByName cell_kind (entry_of c)) cells
 all_named [] = tt
 all_named (c ∷ cs) = (record { form = refl; good = record { width = refl; unbroken = refl } }, all_named cs)
 

@@ -2,7 +2,7 @@
 use Rattle.std.proofs.Common.{◌≡◌, ℕ, ◌+◌, ◌*◌, ◌≤◌, Bool, true, false, List, [], ◌∷◌, map, length, refl, mul-le-mul_right, arith, length-append}
 use Rattle.std.proofs.lemmas.List.{length-map}
 use Rattle.std.proofs.lemmas.Bool.{and_from, le-leb}
-use Rattle.std.specs.List.{AllByRecursion as All}
+use Rattle.std.specs.List.{AllByRecursion}
 use Rattle.elements.specs.Codec.{element, optional}
 use Rattle.lists.specs.declared.cell.CellIdentity.{CellIdentity}
 use Rattle.lists.specs.declared.cell.CellIdentity.TheVariants as cell
@@ -24,7 +24,7 @@ led_one false d = omega arith
 -- 1 to 64 entries by location area code and cell identity, each of w octets
 pub room_named :
     (k : Kind) (id w : ℕ) (es : List Entry) → k.forms 1 ≡ true → w ≡ length (own_form k.headed 1) + 4 + k.tail → 64 ≤ k.most
-    → All (ByName k) es → 1 ≤ length es → length es ≤ 64 → Room (element id (entry_list k)) es (4 + 64 * w)
+    → AllByRecursion (ByName k) es → 1 ≤ length es → length es ≤ 64 → Room (element id (entry_list k)) es (4 + 64 * w)
 room_named k id w es f q m a l u =
     let wide : length (list_octets k es) ≤ 1 + 64 * w =
     omega (arith, length-append (led_by k.headed (head_form es)) (spell_entries k es), led_one k.headed (head_form es), named_wide k es w q a, mul-le-mul_right w u) in

@@ -2,7 +2,7 @@
 use Rattle.std.proofs.Common.{◌≡◌, ℕ, ◌+◌, ◌*◌, ◌<◌, ◌≤◌, Bool, true, List, [], ◌∷◌, map, length, get_or, Some, None, Option, sym, refl, ap, subst, arith}
 use Rattle.std.proofs.ByRecursion.{All-map, All-push}
 use Rattle.std.proofs.lemmas.List.{length-map}
-use Rattle.std.specs.List.{AllByRecursion as All}
+use Rattle.std.specs.List.{AllByRecursion}
 use Rattle.cells.specs.declared.cell.Cell.{Cell}
 use Rattle.elements.specs.declared.cause.Cause.{Cause}
 use Rattle.elements.specs.Codec.{element}
@@ -40,7 +40,7 @@ module _ (cells : List Cell) (T : Outcome → Type 0) (of-cell : (k : ℕ) (ende
       subst T (sym (ap (λ (n : Naming). record { whom = n; ended = o.ended; cause = o.cause }) e)) (of-cell k o.ended o.cause)
   one_sound o os (naming.NoCell n) e s = subst T (sym s.0) (of_none n)
 
-  pub all_sound : (out : List Outcome) → AllSound cells out → All T out
+  pub all_sound : (out : List Outcome) → AllSound cells out → AllByRecursion T out
   all_sound [] s = tt
   all_sound (o ∷ os) s = (one_sound o os o.whom refl s.0, all_sound os s.1)
 
@@ -81,7 +81,7 @@ module _ (cells : List Cell) where
 
 -- what holds of whatever comes of a naming, holds of all that came
 module _ {R : Type 0} (answer : R → Setting → Outcome) (leaves : R → Setting → List (List Row)) (becomes : R → Setting → R) (cells : List Cell) (opened : ℕ → Bool) (T : Outcome → Type 0) (each : (q : R) (rows : List (List Row)) (n : Naming) → T (comes_of answer leaves becomes cells opened q rows n)) where
-  pub handled_all : (s : Stage R) (ns : List Naming) → All T s.out → All T (handled answer leaves becomes cells opened s ns).out
+  pub handled_all : (s : Stage R) (ns : List Naming) → AllByRecursion T s.out → AllByRecursion T (handled answer leaves becomes cells opened s ns).out
   handled_all s [] a = a
   handled_all s (n ∷ ns) a = handled_all (step_on answer leaves becomes cells opened s n) ns (All-push T s.out _ a (each s.request s.rows n))
 
@@ -91,7 +91,7 @@ module _ (cells : List Cell) where
   begun_or_failed e None = tt
   begun_or_failed e (Some c) = tt
 
-  all_begun_or_failed : (out : List Outcome) → All (λ o. Either (begun_entry cells o) (failed_entry cells o)) out
+  all_begun_or_failed : (out : List Outcome) → AllByRecursion (λ o. Either (begun_entry cells o) (failed_entry cells o)) out
   all_begun_or_failed [] = tt
   all_begun_or_failed (o ∷ os) = (begun_or_failed (whom_in cells o.whom) o.cause, all_begun_or_failed os)
 
@@ -111,7 +111,7 @@ module _ (cells : List Cell) where
 
   -- so where none failed, there is a first
   module _ {X : Type 0} (entry : Outcome → Option X) (meant : X → Entry) (out : List Outcome) (some : 0 < length out) where
-    pub other_some : All (λ o. Either (entry o) (failed_entry cells o)) out → length (failed_list cells out) ≡ 0 → 1 ≤ length (map meant (picked entry out))
+    pub other_some : AllByRecursion (λ o. Either (entry o) (failed_entry cells o)) out → length (failed_list cells out) ≡ 0 → 1 ≤ length (map meant (picked entry out))
     other_some a e = simp length-map (first_some entry (failed_entry cells) out a some (simp length-map at e))
 
   pub begun_some : (out : List Outcome) → 0 < length out → length (failed_list cells out) ≡ 0 → 1 ≤ length (begun_list cells out)

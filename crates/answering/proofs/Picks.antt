@@ -1,6 +1,6 @@
 -- The entries that are picked from what came of a request.
 use Rattle.std.proofs.Common.{◌≡◌, ℕ, ◌+◌, ◌<◌, ◌≤◌, List, [], ◌∷◌, length, Some, None, Option, arith}
-use Rattle.std.specs.List.{AllByRecursion as All}
+use Rattle.std.specs.List.{AllByRecursion}
 use Rattle.outcomes.specs.Tells.{cell_count, of_cell}
 use Rattle.replies.specs.Lists.{before, picked}
 use Rattle.table.specs.declared.outcome.Outcome.{Outcome}
@@ -21,11 +21,11 @@ module _ {X : Type 0} (entry : Outcome → Option X) where
 
   -- entries of cells alone: all have the property, and there are no more than cells
   module _ (P : X → Type 0) where
-    before_cells : (n m : ℕ) (x : Option X) (xs : List X) → OfCell P n x → All P xs → length xs ≤ m → All P (before x xs) × (length (before x xs) ≤ n + m)
+    before_cells : (n m : ℕ) (x : Option X) (xs : List X) → OfCell P n x → AllByRecursion P xs → length xs ≤ m → AllByRecursion P (before x xs) × (length (before x xs) ≤ n + m)
     before_cells n m None xs g a l = (a, omega arith)
     before_cells n m (Some x) xs g a l = ((g.1, a), omega (arith, g.0))
 
-    pub picked_cells : (out : List Outcome) → All (λ o. OfCell P (of_cell o.whom) (entry o)) out → All P (picked entry out) × (length (picked entry out) ≤ cell_count out)
+    pub picked_cells : (out : List Outcome) → AllByRecursion (λ o. OfCell P (of_cell o.whom) (entry o)) out → AllByRecursion P (picked entry out) × (length (picked entry out) ≤ cell_count out)
     picked_cells [] g = (tt, omega arith)
     picked_cells (o ∷ os) g =
         let r = picked_cells os g.1 in
@@ -45,7 +45,7 @@ module _ {X Y : Type 0} where
   first_stands (Some x) y xs ys g e = omega arith
 
   pub first_some :
-      (a : Outcome → Option X) (b : Outcome → Option Y) (out : List Outcome) → All (λ o. Either (a o) (b o)) out → 0 < length out → length (picked b out) ≡ 0
+      (a : Outcome → Option X) (b : Outcome → Option Y) (out : List Outcome) → AllByRecursion (λ o. Either (a o) (b o)) out → 0 < length out → length (picked b out) ≡ 0
       → 0 < length (picked a out)
   first_some a b [] g l e = absurd (omega arith)
   first_some a b (o ∷ os) g l e = first_stands (a o) (b o) (picked a os) (picked b os) g.0 e

@@ -1,6 +1,6 @@
 -- A rule that holds at each place of a table, shown by one test that is computed over the whole table.
 use Rattle.std.proofs.Common.{◌≡◌, ℕ, ◌<◌, Bool, true, ◌&&◌, List, [], ◌∷◌, subst, zero-add}
-use Rattle.std.specs.List.{AllByRecursion as All, range_with_len}
+use Rattle.std.specs.List.{AllByRecursion, range_with_len}
 use Rattle.std.proofs.ByRecursion.{All-get_or}
 use Rattle.std.proofs.lemmas.List.FromFn.{length-range_with_len, get_or-range_with_len}
 use Rattle.std.proofs.lemmas.Bool.{and_parts}
@@ -10,7 +10,7 @@ abbrev pub passes : (ℕ → Bool) → List ℕ → Bool
 passes test [] = true
 passes test (x ∷ xs) = test x && passes test xs
 
-all_pass : (test : ℕ → Bool) (xs : List ℕ) → passes test xs ≡ true → All (λ x. test x ≡ true) xs
+all_pass : (test : ℕ → Bool) (xs : List ℕ) → passes test xs ≡ true → AllByRecursion (λ x. test x ≡ true) xs
 all_pass test [] e = tt
 all_pass test (x ∷ xs) e =
     let parts = and_parts (test x) (passes test xs) e in

@@ -9,7 +9,7 @@ use shown::element_lines::{
     show_broadcast_type, show_cause, show_channel, show_identifier, show_new_serial,
     show_old_serial, show_recovery,
 };
-use shown::lists::{show_cells, show_completed, show_failures};
+use shown::list_lines::{show_cells, show_completed, show_failures};
 use std::io;
 
 fn show_optional_channel(rt: &impl Print, channel: Option<Channel>) -> io::Result<()> {

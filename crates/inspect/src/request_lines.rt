@@ -6,7 +6,7 @@ use shown::element_lines::{
     show_broadcasts, show_category, show_channel, show_identifier, show_keep_alive_period,
     show_new_serial, show_old_serial, show_period,
 };
-use shown::lists::show_cells;
+use shown::list_lines::show_cells;
 use std::io;
 
 fn show_write_replace(

@@ -1,6 +1,6 @@
 -- No count of a table's messages exceeds a bound: a period raises it by one, and no request does.
 use Rattle.std.proofs.Common.{◌≡◌, ℕ, zero, suc, ◌+◌, ◌^◌, ◌<◌, ◌≤◌, max, Bool, true, false, cond, ◌⊎◌, List, [], ◌∷◌, ◌++◌, map, length, get_or, set, Some, None, Option, refl, ap, inl, inr, arith}
-use Rattle.std.specs.List.{AllZip, AllByRecursion as All}
+use Rattle.std.specs.List.{AllZip, AllByRecursion}
 use Rattle.std.proofs.ByRecursion.{All-from_get_or}
 use Rattle.std.proofs.lemmas.List.{get_or-set_same, get_or-set_other, set_past}
 use Rattle.std.proofs.lemmas.Bool.{cases_eq, cases_lt}
@@ -24,12 +24,12 @@ use Rattle.law.proofs.Sweeping.{Moved, swept_all}
 use Rattle.law.proofs.Sweeping.Moved.{went, stayed}
 
 -- counts under a bound fit
-all_under : (n : ℕ) (rs : List Row) → peak rs ≤ n → n < 2 ^ 63 → All (λ r. r.count < 2 ^ 63) rs
+all_under : (n : ℕ) (rs : List Row) → peak rs ≤ n → n < 2 ^ 63 → AllByRecursion (λ r. r.count < 2 ^ 63) rs
 all_under n [] e h = tt
 all_under n (r ∷ rs) e h = (omega arith, all_under n rs (omega arith) h)
 
-pub bounded_fit : (n : ℕ) (rows : List (List Row)) → Bounded n rows → n < 2 ^ 63 → All (λ rs. All (λ r. r.count < 2 ^ 63) rs) rows
-bounded_fit n rows b h = All-from_get_or (λ rs. All (λ r. r.count < 2 ^ 63) rs) rows [] (λ k lt. all_under n (get_or rows k []) (b k) h)
+pub bounded_fit : (n : ℕ) (rows : List (List Row)) → Bounded n rows → n < 2 ^ 63 → AllByRecursion (λ rs. AllByRecursion (λ r. r.count < 2 ^ 63) rs) rows
+bounded_fit n rows b h = All-from_get_or (λ rs. AllByRecursion (λ r. r.count < 2 ^ 63) rs) rows [] (λ k lt. all_under n (get_or rows k []) (b k) h)
 
 pub bounded_weaken : (n m : ℕ) (rows : List (List Row)) → n ≤ m → Bounded n rows → Bounded m rows
 bounded_weaken n m rows l b k = omega (arith, b k)

@@ -2,7 +2,7 @@
 use Rattle.std.proofs.Common.{◌≡◌, ℕ, zero, suc, ◌+◌, ◌-◌, ◌<◌, ◌≤◌, Bool, true, false, eqb, ltb, List, [], ◌∷◌, ◌++◌, length, get_or, take, drop, Some, None, Ok, Option, Result, sym, refl, ap, ◌∙◌, subst, inl, inr, append_assoc, append-nil, arith, length-drop}
 use Rattle.std.proofs.lemmas.Bool.{leb-true, eqb-true, ltb-true, ltb-false, eq-eqb, and_from}
 use Rattle.std.proofs.lemmas.List.{length-take-le}
-use Rattle.std.specs.List.{AllByRecursion as All}
+use Rattle.std.specs.List.{AllByRecursion}
 use Rattle.elements.specs.declared.faults.EntryFault.{EntryFault}
 use Rattle.elements.specs.Octets.{Octets}
 use Rattle.elements.proofs.Standing.{when_ok, cond_was, then_ok, same_ok, not_ok, Stands, joins, octet_stands, two_stands, part_stands}
@@ -85,7 +85,7 @@ entry_forth k broken h end os at p o l m e =
 
 -- the entries
 abbrev AllStand : Kind → ℕ → ℕ → List ℕ → ℕ → ℕ → List Entry → Type 0
-AllStand k h end os room at es = (take end os ≡ take at os ++ spell_entries k es) × (length es ≤ room) × All (EntryFits k h) es
+AllStand k h end os room at es = (take end os ≡ take at os ++ spell_entries k es) × (length es ≤ room) × AllByRecursion (EntryFits k h) es
 
 none_stand :
     (k : Kind) (h end : ℕ) (os : List ℕ) (room at : ℕ) (es : List Entry) → at ≤ end → (ltb at end ≡ false) × (◌≡◌ {A = Result (List Entry) EntryFault} (Ok []) (Ok es))

@@ -2,7 +2,7 @@
 use Rattle.std.proofs.Common.{◌≡◌, ℕ, ◌+◌, ◌<◌, ◌≤◌, Bool, true, false, List, [], ◌∷◌, ◌++◌, length, get_or, take, Ok, Result, sym, refl, ap, ◌∙◌, subst, append_assoc, append-nil, le_refl, arith, length-append}
 use Rattle.std.proofs.lemmas.Bool.{eqb-true, ltb-true, leb-true, le-leb, lt-ltb, eq-eqb, and_parts, and_from}
 use Rattle.std.proofs.lemmas.List.{take-take, take_at, get_or-append-add, length-take-le}
-use Rattle.std.specs.List.{AllByRecursion as All}
+use Rattle.std.specs.List.{AllByRecursion}
 use Rattle.elements.specs.declared.faults.EntryFault.{EntryFault}
 use Rattle.elements.specs.declared.faults.ElementFault.{ElementFault}
 use Rattle.elements.specs.Faults.{out_of_range}
@@ -40,11 +40,11 @@ some_was : (body end : ℕ) (fs : List Entry) (p : List Entry × ℕ) → some b
 some_was body end [] p e = absurd (not_ok _ _ e)
 some_was body end (x ∷ xs) p e = (same_ok _ _ e, omega arith)
 
-every_from : (test : Entry → Bool) (es : List Entry) → All (λ (e : Entry). test e ≡ true) es → every test es ≡ true
+every_from : (test : Entry → Bool) (es : List Entry) → AllByRecursion (λ (e : Entry). test e ≡ true) es → every test es ≡ true
 every_from test [] a = refl
 every_from test (e ∷ es) a = and_from _ _ a.0 (every_from test es a.1)
 
-every_to : (test : Entry → Bool) (es : List Entry) → every test es ≡ true → All (λ (e : Entry). test e ≡ true) es
+every_to : (test : Entry → Bool) (es : List Entry) → every test es ≡ true → AllByRecursion (λ (e : Entry). test e ≡ true) es
 every_to test [] a = tt
 every_to test (e ∷ es) a = let p = and_parts _ _ a in (p.0, every_to test es p.1)
 
@@ -61,15 +61,15 @@ refit : (k : Kind) (g h : ℕ) (e : Entry) → (formed k.headed g (form_of e.cel
 refit k g h e f p = let a = and_parts _ _ p in and_from _ _ (f a.0) a.1
 
 refit_all :
-    (k : Kind) (g h : ℕ) → ((d : ℕ) → formed k.headed g d ≡ true → formed k.headed h d ≡ true) → (es : List Entry) → All (EntryFits k g) es → All (EntryFits k h) es
+    (k : Kind) (g h : ℕ) → ((d : ℕ) → formed k.headed g d ≡ true → formed k.headed h d ≡ true) → (es : List Entry) → AllByRecursion (EntryFits k g) es → AllByRecursion (EntryFits k h) es
 refit_all k g h f [] a = tt
 refit_all k g h f (e ∷ es) a = (refit k g h e (f (form_of e.cell)) a.0, refit_all k g h f es a.1)
 
-head_led : (k : Kind) (h : ℕ) (es : List Entry) → 1 ≤ length es → All (EntryFits k h) es → led_by k.headed h ≡ led_by k.headed (head_form es)
+head_led : (k : Kind) (h : ℕ) (es : List Entry) → 1 ≤ length es → AllByRecursion (EntryFits k h) es → led_by k.headed h ≡ led_by k.headed (head_form es)
 head_led k h [] l a = absurd (omega arith)
 head_led k h (e ∷ es) l a = led_same k.headed h (form_of e.cell) (fit k h e a.0).has_form
 
-head_fits : (k : Kind) (h : ℕ) (es : List Entry) → All (EntryFits k h) es → All (EntryFits k (head_form es)) es
+head_fits : (k : Kind) (h : ℕ) (es : List Entry) → AllByRecursion (EntryFits k h) es → AllByRecursion (EntryFits k (head_form es)) es
 head_fits k h [] a = tt
 head_fits k h (e ∷ es) a =
     refit_all k h (form_of e.cell) (λ d p. formed_same k.headed h (form_of e.cell) d (fit k h e a.0).has_form p) (e ∷ es) a
@@ -159,7 +159,7 @@ list_read k os at body end p es a b c =
 
 -- a list of at least one entry, of which the first is e
 list_back :
-    (k : Kind) (pre post : List ℕ) (at : ℕ) (e : Entry) (es : List Entry) → length (e ∷ es) ≤ k.most → All (EntryFits k (form_of e.cell)) (e ∷ es)
+    (k : Kind) (pre post : List ℕ) (at : ℕ) (e : Entry) (es : List Entry) → length (e ∷ es) ≤ k.most → AllByRecursion (EntryFits k (form_of e.cell)) (e ∷ es)
     → read_list k (pre ++ (lengthed (list_octets k (e ∷ es)) ++ post)) at (length pre) ≡ Ok (e ∷ es, length pre + 2 + length (list_octets k (e ∷ es)))
 list_back k pre post at e es l f =
     let d : ℕ = form_of e.cell in
@@ -181,7 +181,7 @@ list_back k pre post at e es l f =
     let n : length front + length ys ≡ end = omega arith in
     let b : front ++ (ys ++ []) ≡ take end os
     = ap (λ (t : List ℕ). front ++ t) (append-nil ys) ∙ sym (take_at (front ++ ys) post end (length-append front ys ∙ n)) ∙ ap (take end) (append_assoc front ys post ∙ a) in
-    let g : All (EntryFits k (start k.headed d)) (e ∷ es) = refit_all k d (start k.headed d) (start_formed k.headed d) (e ∷ es) f in
+    let g : AllByRecursion (EntryFits k (start k.headed d)) (e ∷ es) = refit_all k d (start k.headed d) (start_formed k.headed d) (e ∷ es) f in
     let broken : EntryFault = record { place = length pre } in
     let r : read_entries k broken (start k.headed d) end (take end os) k.most (length pre + 2 + length led) ≡ Ok (e ∷ es)
     = subst (λ (i : ℕ). read_entries k broken (start k.headed d) end (take end os) k.most i ≡ Ok (e ∷ es)) m

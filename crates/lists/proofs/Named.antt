@@ -1,7 +1,7 @@
 -- Lists whose entries all name their cell by location area code and cell identity: they fit, and each entry has one width.
 use Rattle.std.proofs.Common.{◌≡◌, ℕ, suc, ◌+◌, ◌*◌, ◌≤◌, Bool, true, false, List, [], ◌∷◌, length, sym, refl, ap, ◌∙◌, subst, add-mul, arith, length-append}
 use Rattle.std.proofs.lemmas.Bool.{and_from, eq-eqb, le-leb}
-use Rattle.std.specs.List.{AllByRecursion as All}
+use Rattle.std.specs.List.{AllByRecursion}
 use Rattle.lists.specs.declared.cell.CellIdentity.{CellIdentity}
 use Rattle.lists.specs.declared.cell.CellIdentity.TheVariants as cell
 use Rattle.lists.specs.Cells.{form_of, cell_octets}
@@ -22,11 +22,11 @@ entry_fits_lem k e f n =
     and_from _ _ (formed_one k.headed (form_of e.cell) n.form)
     (and_from _ _ (subst (λ (d : ℕ). k.forms d ≡ true) (sym n.form) f) (and_from _ _ (eq-eqb _ _ n.good.width) n.good.unbroken))
 
-every_fits : (k : Kind) (es : List Entry) → k.forms 1 ≡ true → All (ByName k) es → every (entry_fits k 1) es ≡ true
+every_fits : (k : Kind) (es : List Entry) → k.forms 1 ≡ true → AllByRecursion (ByName k) es → every (entry_fits k 1) es ≡ true
 every_fits k [] f a = refl
 every_fits k (e ∷ es) f a = and_from _ _ (entry_fits_lem k e f a.0) (every_fits k es f a.1)
 
-pub named_fits : (k : Kind) (es : List Entry) → k.forms 1 ≡ true → All (ByName k) es → 1 ≤ length es → length es ≤ k.most → list_fits k es ≡ true
+pub named_fits : (k : Kind) (es : List Entry) → k.forms 1 ≡ true → AllByRecursion (ByName k) es → 1 ≤ length es → length es ≤ k.most → list_fits k es ≡ true
 named_fits k [] f a l m = absurd (omega arith)
 named_fits k (e ∷ es) f a l m =
     and_from _ _ (and_from _ _ (le-leb 1 (length (e ∷ es)) l) (le-leb (length (e ∷ es)) k.most m))
@@ -50,7 +50,7 @@ entry_wide k e n =
 suc_times : (m n : ℕ) → suc m * n ≡ n + m * n
 suc_times m n = let e : suc m ≡ m + 1 = omega arith in ap (λ (i : ℕ). i * n) e ∙ add-mul m 1 n ∙ omega arith
 
-pub named_wide : (k : Kind) (es : List Entry) (w : ℕ) → w ≡ length (own_form k.headed 1) + 4 + k.tail → All (ByName k) es → length (spell_entries k es) ≡ length es * w
+pub named_wide : (k : Kind) (es : List Entry) (w : ℕ) → w ≡ length (own_form k.headed 1) + 4 + k.tail → AllByRecursion (ByName k) es → length (spell_entries k es) ≡ length es * w
 named_wide k [] w q a = omega arith
 named_wide k (e ∷ es) w q a =
     let l : length (spell_entries k (e ∷ es)) ≡ length (spell_entry k e) + length (spell_entries k es) = length-append (spell_entry k e) (spell_entries k es) in

@@ -1,6 +1,6 @@
 -- The cells that a list names are there, and each comes once.
 use Rattle.std.proofs.Common.{◌≡◌, ℕ, ◌+◌, ◌<◌, ◌≤◌, Bool, true, false, cond, ltb, ◌⊎◌, List, [], ◌∷◌, ◌++◌, length, set, replicate, fold, sym, refl, ap, ◌∙◌, subst, inl, inr, arith}
-use Rattle.std.specs.List.{AllByRecursion as All}
+use Rattle.std.specs.List.{AllByRecursion}
 use Rattle.std.proofs.ByRecursion.{All-push, All-weaker}
 use Rattle.std.proofs.lemmas.Bool.{cases_eq, cases_lt, and_right, le-ltb, both_ways}
 use Rattle.std.proofs.lemmas.List.{get_or-set_same, get_or-set_other, length-set}
@@ -13,21 +13,21 @@ use Rattle.naming.specs.Names.{is_found, names_only_first, names_from, names}
 use Rattle.naming.specs.Namings.{Stage, stage, noted, is_some, entered, IsThere, cells_in, Once, Sound}
 
 -- what an entry names is there
-pub names_there : (e : CellIdentity) (n m : ℕ) (cs : List Cell) → n + length cs ≡ m → All (λ k. k < m) (names_from e n cs)
+pub names_there : (e : CellIdentity) (n m : ℕ) (cs : List Cell) → n + length cs ≡ m → AllByRecursion (λ k. k < m) (names_from e n cs)
 names_there e n m [] h = tt
 names_there e n m (c ∷ cs) h = go (names_there e (n + 1) m cs (omega arith)) (is_found e c) (names_only_first e)
   where
-    go : All (λ k. k < m) (names_from e (n + 1) cs) → (f o : Bool) → All (λ k. k < m) (cond f (n ∷ cond o [] (names_from e (n + 1) cs)) (names_from e (n + 1) cs))
+    go : AllByRecursion (λ k. k < m) (names_from e (n + 1) cs) → (f o : Bool) → AllByRecursion (λ k. k < m) (cond f (n ∷ cond o [] (names_from e (n + 1) cs)) (names_from e (n + 1) cs))
     go more false o = more
     go more true true = ((omega arith), tt)
     go more true false = ((omega arith), more)
 
 -- no cell that came is unmarked
 abbrev Marked : List ℕ → List ℕ → Type 0
-Marked ms ks = All (λ k. is_clear ms k ≡ false) ks
+Marked ms ks = AllByRecursion (λ k. is_clear ms k ≡ false) ks
 
 record Good (m : ℕ) (s : Stage) : Type 0 where
-  there : All (IsThere m) s.out
+  there : AllByRecursion (IsThere m) s.out
   marked : Marked s.marks (cells_in s.out)
   once : Once (cells_in s.out)
 
@@ -42,7 +42,7 @@ cells_same (naming.Cell j ∷ ns) e = ap (λ (ks : List ℕ). j ∷ ks) (cells_s
 cells_same (naming.NoCell f ∷ ns) e = cells_same ns e
 
 -- a number that is not there yet
-once_push : (ks : List ℕ) (k : ℕ) → Once ks → All (λ j. k ≡ j → ⊥) ks → Once (ks ++ k ∷ [])
+once_push : (ks : List ℕ) (k : ℕ) → Once ks → AllByRecursion (λ j. k ≡ j → ⊥) ks → Once (ks ++ k ∷ [])
 once_push [] k o a = (tt, tt)
 once_push (j ∷ ks) k o a = (All-push (λ i. i ≡ j → ⊥) ks k o.0 a.0, once_push ks k o.1 a.1)
 
@@ -82,7 +82,7 @@ good_noted m s k l g = go (is_clear s.marks k) refl
               (once_push (cells_in s.out) k g.once (All-weaker (λ j. is_clear s.marks j ≡ false) (λ j. k ≡ j → ⊥) (new t) (cells_in s.out) g.marked));
         }
 
-good_names : (m : ℕ) (ks : List ℕ) (s : Stage) → All (λ k. k < m) ks → Good m s → Good m (fold noted s ks)
+good_names : (m : ℕ) (ks : List ℕ) (s : Stage) → AllByRecursion (λ k. k < m) ks → Good m s → Good m (fold noted s ks)
 good_names m [] s a g = g
 good_names m (k ∷ ks) s a g = good_names m ks (noted s k) a.1 (good_noted m s k a.0 g)
 

@@ -1,7 +1,7 @@
 -- What comes of the entries of a Cell List: entries in list order, the cells of an entry in the order of their numbers, each cell at its
 -- first naming only.
 use Rattle.std.specs.Prelude.{ℕ, ◌<◌, Bool, true, false, cond, List, [], ◌∷◌, ◌++◌, map, length, replicate, fold, ◌≢◌, slice_set}
-use Rattle.std.specs.List.{AllByRecursion as All}
+use Rattle.std.specs.List.{AllByRecursion}
 use Rattle.cells.specs.declared.cell.Cell.{Cell}
 use Rattle.lists.specs.declared.cell.CellIdentity.{CellIdentity}
 use Rattle.lists.specs.declared.cell.CellIdentity.TheVariants as identity
@@ -64,8 +64,8 @@ cells_in (naming.NoCell e ∷ ns) = cells_in ns
 -- no number stands twice
 abbrev pub Once : List ℕ → Type 0
 Once [] = Unit {0}
-Once (k ∷ ks) = All (λ j. j ≢ k) ks × Once ks
+Once (k ∷ ks) = AllByRecursion (λ j. j ≢ k) ks × Once ks
 
 -- whatever the cells and the entries: what comes of a list are cells that are there, each once
 abbrev pub Sound : Type 0
-Sound = (cs : List Cell) (es : List CellIdentity) → All (IsThere (length cs)) (namings cs es) × Once (cells_in (namings cs es))
+Sound = (cs : List Cell) (es : List CellIdentity) → AllByRecursion (IsThere (length cs)) (namings cs es) × Once (cells_in (namings cs es))

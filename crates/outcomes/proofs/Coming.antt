@@ -1,6 +1,6 @@
 -- What comes of a list: cells that are there, entries that name none, how many of each, and something where the list has an entry.
 use Rattle.std.proofs.Common.{◌≡◌, ℕ, ◌+◌, ◌<◌, ◌≤◌, Bool, true, false, cond, eqb, ltb, List, [], ◌∷◌, ◌++◌, length, get_or, set, replicate, fold, refl, ap, arith}
-use Rattle.std.specs.List.{AllByRecursion as All}
+use Rattle.std.specs.List.{AllByRecursion}
 use Rattle.std.proofs.ByRecursion.{All-push}
 use Rattle.std.proofs.lemmas.List.{length_push, length-replicate, get_or-replicate}
 use Rattle.std.proofs.lemmas.Bool.{and_parts, ltb-true, lt-ltb, eqb-true}
@@ -25,7 +25,7 @@ start = stage (replicate 64 0) []
 
 -- from one stage to a later one, n entries on: each new cell took a clear mark, and besides the cells no more came than entries
 record Later (cs : List Cell) (n : ℕ) (s t : Stage) : Type 0 where
-  right : All (Right cs) s.out → All (Right cs) t.out
+  right : AllByRecursion (Right cs) s.out → AllByRecursion (Right cs) t.out
   cells : length (cells_in t.out) + clear_marks t.marks ≡ length (cells_in s.out) + clear_marks s.marks
   all : length t.out + clear_marks t.marks ≤ length s.out + clear_marks s.marks + n
   grows : length s.out ≤ length t.out
@@ -52,14 +52,14 @@ module _ (cs : List Cell) where
             grows = simp length_push (omega arith);
           }
 
-  later_names : (ks : List ℕ) (s : Stage) → All (λ k. k < length cs) ks → Later cs 0 s (fold noted s ks)
+  later_names : (ks : List ℕ) (s : Stage) → AllByRecursion (λ k. k < length cs) ks → Later cs 0 s (fold noted s ks)
   later_names [] s a = later_same s
   later_names (k ∷ ks) s a = later_then (later_noted s k a.0) (later_names ks (noted s k) a.1) (omega arith)
 
   later_entered : (s : Stage) (e : CellIdentity) → Later cs 1 s (entered cs s e)
   later_entered s e = go (names cs e) refl (names_there e 0 (length cs) cs (omega arith))
     where
-      go : (ks : List ℕ) → names cs e ≡ ks → All (λ k. k < length cs) ks → Later cs 1 s (cond (is_some ks) (fold noted s ks) (stage s.marks (s.out ++ naming.NoCell e ∷ [])))
+      go : (ks : List ℕ) → names cs e ≡ ks → AllByRecursion (λ k. k < length cs) ks → Later cs 1 s (cond (is_some ks) (fold noted s ks) (stage s.marks (s.out ++ naming.NoCell e ∷ [])))
       go [] none a =
           record {
             right = λ r. All-push (Right cs) s.out (naming.NoCell e) r none;
@@ -73,7 +73,7 @@ module _ (cs : List Cell) where
   later_all [] s = later_same s
   later_all (e ∷ es) s = later_then (later_entered s e) (later_all es (entered cs s e)) (omega arith)
 
-  pub namings_right : (es : List CellIdentity) → All (Right cs) (namings cs es)
+  pub namings_right : (es : List CellIdentity) → AllByRecursion (Right cs) (namings cs es)
   namings_right es = (later_all es start).right tt
 
   -- no more cells than marks
@@ -92,7 +92,7 @@ all_new n k l = rw (length-replicate, get_or-replicate {A = ℕ} n k 0 0 l, lt-l
 first_comes : (cs : List Cell) (e : CellIdentity) → length cs ≤ 64 → 0 < length (entered cs start e).out
 first_comes cs e few = go (names cs e) (names_there e 0 (length cs) cs (omega arith))
   where
-    go : (ks : List ℕ) → All (λ k. k < length cs) ks → 0 < length (cond (is_some ks) (fold noted start ks) (stage (replicate 64 0) ([] ++ naming.NoCell e ∷ []))).out
+    go : (ks : List ℕ) → AllByRecursion (λ k. k < length cs) ks → 0 < length (cond (is_some ks) (fold noted start ks) (stage (replicate 64 0) ([] ++ naming.NoCell e ∷ []))).out
     go [] a = omega arith
     go (k ∷ ks) a =
         let within : k < 64 = omega (arith, a.0) in

@@ -1,6 +1,6 @@
 -- A request over namings, told cell by cell: for any kind of request, from what it does in one cell.
 use Rattle.std.proofs.Common.{◌≡◌, ℕ, ◌+◌, ◌<◌, Bool, true, false, cond, eqb, List, [], ◌∷◌, ◌++◌, map, length, get_or, set, Some, None, Option, sym, refl, ap, ◌∙◌, subst, arith}
-use Rattle.std.specs.List.{AllByRecursion as All}
+use Rattle.std.specs.List.{AllByRecursion}
 use Rattle.std.proofs.lemmas.List.{append-nil, append_assoc, get_or-set_other, length-set, length-map}
 use Rattle.std.proofs.lemmas.Bool.{eqb-true, eqb-false, ne_eqb}
 use Rattle.cells.specs.declared.cell.Cell.{Cell}
@@ -37,7 +37,7 @@ whoms os = map (λ (o : Outcome). o.whom) os
 
 -- a cell is not among the namings
 abbrev pub NotIn : ℕ → List Naming → Type 0
-NotIn k ns = All (λ j. j ≡ k → ⊥) (cells_in ns)
+NotIn k ns = AllByRecursion (λ j. j ≡ k → ⊥) (cells_in ns)
 
 -- then it has no outcome
 pub unnamed : (os : List Outcome) (k : ℕ) → NotIn k (whoms os) → outcome_at k os ≡ None
@@ -118,7 +118,7 @@ module _ {R : Type 0} (answer : R → Setting → Outcome) (leaves : R → Setti
 -- a kind of request whose outcome in a cell tells what it did there
 module _ {R : Type 0} {answer : R → Setting → Outcome} {leaves : R → Setting → List (List Row)} {becomes : R → Setting → R}
     {Is : R → Type 0} {E : Outcome → List Row → List Row → Type 0} (local : Locally answer leaves becomes Is E) (cells : List Cell) (opened : ℕ → Bool) where
-  told : (ns : List Naming) (s : Stage R) → Is s.request → length s.rows ≡ length cells → All (Right cells) ns → Once (cells_in ns)
+  told : (ns : List Naming) (s : Stage R) → Is s.request → length s.rows ≡ length cells → AllByRecursion (Right cells) ns → Once (cells_in ns)
       → Told cells E s.rows (handled answer leaves becomes cells opened s ns).rows ns (outcomes_of answer leaves becomes cells opened s.request s.rows ns)
   told [] s is long right once = record { whom = refl; sound = tt; cell = λ k. refl; long = refl }
   told (naming.Cell k ∷ ns) s is long right once =

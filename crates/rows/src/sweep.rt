@@ -1,6 +1,6 @@
 // Offering the messages of cells to a site.
 ghost use Rattle.std.specs.Prelude.{◌≡◌, ◌^◌, ◌<◌, map};
-ghost use Rattle.std.specs.List.{AllByRecursion as All};
+ghost use Rattle.std.specs.List.{AllByRecursion};
 ghost use Rattle.site.specs.Messages.{aired};
 ghost use Rattle.rows.specs.Held.{rows_of};
 ghost use Rattle.rows.specs.Sweep.{Served, Turn, Turns, due, lowered};
@@ -66,7 +66,7 @@ fn take_turn<S: Site>(row: &mut Row, cell: usize, contents: &[Content], site: &m
 
 // The messages of a cell in a period, the oldest first.
 pub fn serve<S: Site>(rows: &mut [Row], cell: usize, contents: &[Content], site: &mut S)
-    requires { All (λ r. r.count < 2 ^ 63) rows.old }
+    requires { AllByRecursion (λ r. r.count < 2 ^ 63) rows.old }
     ensures { Turns S.Site.model S.Site.steps (map text_of contents.now) cell rows.old site.old rows.new site.new }
 {
     for row in rows.iter_mut() {
@@ -76,7 +76,7 @@ pub fn serve<S: Site>(rows: &mut [Row], cell: usize, contents: &[Content], site:
 
 // The messages of all cells in a period, in the order of the cells' numbers.
 pub fn serve_all<S: Site>(cells: &mut [Rows], contents: &[Content], site: &mut S)
-    requires { All (λ rs. All (λ r. r.count < 2 ^ 63) rs) (map rows_of cells.old) }
+    requires { AllByRecursion (λ rs. AllByRecursion (λ r. r.count < 2 ^ 63) rs) (map rows_of cells.old) }
     ensures { Served S.Site.model S.Site.steps (map text_of contents.now) (map rows_of cells.old) site.old (map rows_of cells.new) site.new }
 {
     for cell in 0..cells.len() {

@@ -1,6 +1,6 @@
 -- A loop that folds a list, step by step.
 use Rattle.std.proofs.Common.{◌≡◌, ℕ, ◌+◌, ◌<◌, ◌≤◌, List, length, get_or, drop, fold, sym, ap, ◌∙◌, subst}
-use Rattle.std.specs.List.{AllByRecursion as All}
+use Rattle.std.specs.List.{AllByRecursion}
 use Rattle.std.proofs.ByRecursion.{All-get_or}
 use Rattle.naming.specs.declared.naming.Naming.{Naming}
 use Rattle.std.proofs.lemmas.List.{at_drop_more, at_drop_all}
@@ -19,5 +19,5 @@ module _ {X Y : Type 0} (f : Y → X → Y) (s start : Y) (xs : List X) (i : ℕ
 pub same_stage : {R : Type 0} (q r : R) (rs ss : List (List Row)) (os ps : List Outcome) → q ≡ r → rs ≡ ss → os ≡ ps → stage q rs os ≡ stage r ss ps
 same_stage q r rs ss os ps a b c = cc
 
-pub there_at : (n m : ℕ) (ns : List Naming) (i : ℕ) (d : Naming) → m ≡ n → i < length ns → All (IsThere n) ns → IsThere m (get_or ns i d)
+pub there_at : (n m : ℕ) (ns : List Naming) (i : ℕ) (d : Naming) → m ≡ n → i < length ns → AllByRecursion (IsThere n) ns → IsThere m (get_or ns i d)
 there_at n m ns i d e l a = subst (λ (k : ℕ). IsThere k (get_or ns i d)) (sym e) (All-get_or (IsThere n) ns i d l a)

@@ -1,6 +1,6 @@
 // A request over what a Cell List came to.
 ghost use Rattle.std.specs.Prelude.{◌≡◌, ◌+◌, ◌<◌, ◌≤◌, map, length, vec_len, vec_capacity};
-ghost use Rattle.std.specs.List.{AllByRecursion as All};
+ghost use Rattle.std.specs.List.{AllByRecursion};
 ghost use Rattle.rows.specs.Held.{rows_of};
 ghost use Rattle.naming.specs.Namings.{IsThere};
 ghost use Rattle.table.specs.Handling.{capability_at, comes_of, handled, request_on, rows_on, stage};
@@ -51,7 +51,7 @@ pub fn handle<R: CellRequest, S: Site>(
     namings: &[Naming],
     out: &mut Vec<Outcome>,
 )
-    requires there { All (IsThere (length rows.old)) namings.now }
+    requires there { AllByRecursion (IsThere (length rows.old)) namings.now }
     requires room { vec_len out.old + length namings.now ≤ vec_capacity out.old }
     ensures handled { stage request.new (map rows_of rows.new) out.new.items ≡ handled R.CellRequest.answer R.CellRequest.leaves R.CellRequest.becomes cells.now (S.Site.model site.now).opened (stage request.old (map rows_of rows.old) out.old.items) namings.now }
     ensures len { vec_len out.new ≡ vec_len out.old + length namings.now }

@@ -1,6 +1,6 @@
 // Adding and taking messages of a cell.
 ghost use Rattle.std.specs.Prelude.{◌≡◌, ◌^◌, ◌<◌, ◌≤◌, [], ◌∷◌, ◌++◌, map, length, IfOk, if◌then◌else◌, nat_lt};
-ghost use Rattle.std.specs.List.{AllByRecursion as All};
+ghost use Rattle.std.specs.List.{AllByRecursion};
 ghost use Rattle.rows.specs.Held.{rows_of};
 ghost use Rattle.rows.specs.Keys.{first_of, is_same, without};
 ghost use Rattle.rows.specs.Sweep.{Turns};
@@ -60,7 +60,7 @@ impl Rows {
 
     // A period of the cell with that number.
     pub fn serve<S: Site>(&mut self, cell: usize, contents: &[Content], site: &mut S)
-        requires { All (λ r. r.count < 2 ^ 63) (rows_of self.old) }
+        requires { AllByRecursion (λ r. r.count < 2 ^ 63) (rows_of self.old) }
         ensures { Turns S.Site.model S.Site.steps (map text_of contents.now) cell (rows_of self.old) site.old (rows_of self.new) site.new }
     {
         serve(self.rows.as_mut_slice(), cell, contents, site);

@@ -1,5 +1,5 @@
 use Rattle.std.proofs.Common.{◌^◌, ◌<◌, List, [], map, refl}
-use Rattle.std.specs.List.{AllByRecursion as All}
+use Rattle.std.specs.List.{AllByRecursion}
 use Rattle.rows.specs.declared.row.Row.{Row}
 use Rattle.rows.specs.Held.{rows_of}
 use Rattle.rows.specs.Sweep.{Turns}
@@ -13,7 +13,7 @@ loop-cell-init g c = (refl, refl)
 pub serve-requires : goal.serve-requires
 serve-requires g c =
     told_all_at rows_of c.args.cells.now c.loop-cell.cells c.loop-cell.cell _ [] c.loop-cell-test.true c.loop-cell.auto.cells
-    c.loop-cell.invariant.1 (λ (rs : List Row). All (λ r. r.count < 2 ^ 63) rs) c.requires
+    c.loop-cell.invariant.1 (λ (rs : List Row). AllByRecursion (λ r. r.count < 2 ^ 63) rs) c.requires
 
 pub loop-cell-preserved : goal.loop-cell-preserved
 loop-cell-preserved g c =

@@ -1,5 +1,5 @@
 use Rattle.std.proofs.Common.{◌≡◌, ℕ, List, map, length, vec_items, sym, ap, ◌∙◌, subst, arith}
-use Rattle.std.specs.List.{AllByRecursion as All}
+use Rattle.std.specs.List.{AllByRecursion}
 use Rattle.lists.specs.CellLists.{cells_meant}
 use Rattle.naming.specs.declared.naming.Naming.{Naming}
 use Rattle.naming.specs.Namings.{IsThere, named_by, namings}
@@ -16,8 +16,8 @@ handle-requires g c =
     let named : c.as_slice.result.now ≡ namings cs es = c.as_slice.ensures.value ∙ c.name_cells.ensures.namings in
     record {
       there =
-          subst (λ (ns : List Naming). All (IsThere (length c.args.rows.now)) ns) (sym named)
-          (subst (λ (n : ℕ). All (IsThere n) (namings cs es)) (sym c.requires.known) (sound cs es).0);
+          subst (λ (ns : List Naming). AllByRecursion (IsThere (length c.args.rows.now)) ns) (sym named)
+          (subst (λ (n : ℕ). AllByRecursion (IsThere n) (namings cs es)) (sym c.requires.known) (sound cs es).0);
       room = omega (arith, c.as_slice.ensures.len, c.name_cells.ensures.few, c.clear.ensures.len, c.clear.ensures.capacity);
     }
 
