@@ -1,9 +1,10 @@
 // Making a store over a checked list of cells.
-ghost use Rattle.std.specs.Prelude.{◌≡◌, ◌<◌, ◌≤◌, [], map, length, IfOk, vec_len};
+ghost use Rattle.std.specs.Prelude.{◌≡◌, ◌<◌, ◌≤◌, [], map, length, replicate, IfOk, vec_len};
 ghost use Rattle.cells.specs.Held.{cells_of};
 ghost use Rattle.rows.specs.Held.{rows_of};
+ghost use Rattle.rows.specs.Texts.{no_text, text_of};
 ghost use Rattle.store.specs.Entries.{list_entry};
-ghost use Rattle.store.specs.Held.{cells_held, rows_held};
+ghost use Rattle.store.specs.Held.{cells_held, rows_held, texts_held};
 
 use super::Store;
 use cells::cell::Cell;
@@ -50,7 +51,10 @@ fn no_rows(heap: Global, cells: &[Cell]) -> Result<Vec<Rows>, AllocError>
     Ok(rows)
 }
 
-fn new_contents(heap: Global) -> Result<Vec<Content>, AllocError> {
+// Nothing in any content.
+fn new_contents(heap: Global) -> Result<Vec<Content>, AllocError>
+    ensures { IfOk result (λ v. map text_of v.items ≡ replicate 32 no_text) }
+{
     let mut contents = Vec::with_capacity(heap, CONTENTS)?;
     for _slot in 0..CONTENTS {
         contents.push(Content::new(heap)?)?;
@@ -63,6 +67,7 @@ impl Store {
     pub fn new(heap: Global, list: &CellList) -> Result<Store, AllocError>
         ensures cells { IfOk result (λ s. cells_held s ≡ cells_of list.now) }
         ensures rows { IfOk result (λ s. rows_held s ≡ map (λ _. []) (cells_of list.now)) }
+        ensures texts { IfOk result (λ s. texts_held s ≡ replicate 32 no_text) }
     {
         let cells = Vec::from_slice(heap, list.cells())?;
         let entries = entries_of(heap, list.cells())?;
