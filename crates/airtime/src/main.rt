@@ -4,24 +4,24 @@
 mod report;
 
 use cbsp::channel::Channel;
-use frame::frame_site::{FrameSite, check_memory};
+use frame::frame_site::{FrameSite, MEMORY, check_memory};
 use frame::period::{air_frames, first_frames};
 use report::{report, show_frames};
 use site::Site;
 use site::drill::DrillSite;
-use site::message::{CbsMessage, Page};
+use site::message::{CONTENT, CbsMessage, Page};
 use site::period::{Offer, air};
 use std::alloc::{AllocError, Global};
 
 // A page of text, filled up with zeros.
 fn text_page(text: &[u8]) -> Page {
-    let mut content = [0; 82];
-    let used = text.len().min(82);
-    content[0..used].copy_from_slice(&text[0..used]);
+    let mut content = [0; CONTENT];
+    let used = text.len().min(CONTENT);
+    content[..used].copy_from_slice(&text[..used]);
     Page { content }
 }
 
-// Both messages in each of ten cells, cell by cell.
+// Both messages in each of ten cells, cell by cell. A for: each extend may find no memory.
 fn all_offers<'a>(
     heap: Global,
     road: CbsMessage<'a>,
@@ -29,16 +29,18 @@ fn all_offers<'a>(
 ) -> Result<Vec<Offer<'a>>, AllocError> {
     let mut offers = Vec::new(heap);
     for cell in 0..10 {
-        offers.push(Offer {
-            cell,
-            channel: Channel::Basic,
-            message: road,
-        })?;
-        offers.push(Offer {
-            cell,
-            channel: Channel::Extended,
-            message: water,
-        })?;
+        offers.extend([
+            Offer {
+                cell,
+                channel: Channel::Basic,
+                message: road,
+            },
+            Offer {
+                cell,
+                channel: Channel::Extended,
+                message: water,
+            },
+        ])?;
     }
     Ok(offers)
 }
@@ -52,12 +54,10 @@ fn drill(rt: &HostRuntime, offers: &[Offer<'_>]) -> anyhow::Result<()> {
     report(rt, &site, 10)
 }
 
-// What the first call on a frame memory answers.
+// What the first call on a frame memory answers; 0 for no refusal, as a host in C is answered.
 fn check(rt: &HostRuntime, memory: &[u8]) -> anyhow::Result<()> {
-    let number = match check_memory(memory) {
-        Ok(()) => 0,
-        Err(refusal) => refusal.number(),
-    };
+    let refusal = check_memory(memory).err();
+    let number = refusal.map_or(0, |refusal| u8::from(refusal));
     let octets = memory.len();
     println!(rt; "frame memory of {octets} octets, refusal: {number}")?;
     Ok(())
@@ -76,26 +76,21 @@ fn frame(rt: &HostRuntime, memory: &mut [u8], offers: &[Offer<'_>]) -> anyhow::R
 
 // A frame memory through three sites: a whole period; one broadcast in front of what stays behind it;
 // and, with an octet taken away, a period that is counted and not written.
-fn frames(
-    rt: &HostRuntime,
-    heap: Global,
-    offers: &[Offer<'_>],
-    once: &[Offer<'_>],
-) -> anyhow::Result<()> {
-    let mut memory = vec![in heap; 0u8; 21152]?;
+fn frames(rt: &HostRuntime, offers: &[Offer<'_>], once: &[Offer<'_>]) -> anyhow::Result<()> {
+    let mut memory = vec![in rt.alloc(); 0u8; MEMORY]?;
     let done = frame(rt, memory.as_mut_slice(), offers)?;
     show_frames(rt, memory.as_slice(), done)?;
     let again = first_frames(memory.as_mut_slice(), once);
     println!(rt; "another frame site, broadcasts done: {again}")?;
     show_frames(rt, memory.as_slice(), 3)?;
-    memory.truncate(21151);
+    memory.truncate(MEMORY - 1);
     frame(rt, memory.as_mut_slice(), offers)?;
     show_frames(rt, memory.as_slice(), 1)
 }
 
 // The last cell with more pages than go on the air, and a cell that is none.
-fn edges(rt: &HostRuntime, heap: Global) -> anyhow::Result<()> {
-    let mut memory = vec![in heap; 0u8; 21152]?;
+fn edges(rt: &HostRuntime) -> anyhow::Result<()> {
+    let mut memory = vec![in rt.alloc(); 0u8; MEMORY]?;
     let pages = [text_page(b"One of seventeen pages."); 17];
     let message = CbsMessage {
         serial: 0x4000,
@@ -146,6 +141,6 @@ fn main(rt: HostRuntime) -> anyhow::Result<()> {
         message: road,
     }];
     drill(&rt, offers.as_slice())?;
-    frames(&rt, rt.alloc(), offers.as_slice(), &once)?;
-    edges(&rt, rt.alloc())
+    frames(&rt, offers.as_slice(), &once)?;
+    edges(&rt)
 }

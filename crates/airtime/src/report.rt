@@ -7,14 +7,13 @@ use site::message::PAGE;
 fn report_cell<S: Site>(rt: &HostRuntime, site: &S, cell: usize) -> anyhow::Result<()> {
     let state = if site.is_open(cell) { "open" } else { "closed" };
     let room = site.room(cell);
-    print!(rt; "  cell {cell} {state}, room {room}")?;
     let basic = site.count(cell, Channel::Basic);
     let extended = site.count(cell, Channel::Extended);
-    println!(rt; ", basic {basic}, extended {extended}")?;
+    println!(rt; "  cell {cell} {state}, room {room}, basic {basic}, extended {extended}")?;
     Ok(())
 }
 
-// The first cells of a site.
+// The first cells of a site. By number: a site is asked by a cell's number, and has no slice of cells.
 pub fn report<S: Site>(rt: &HostRuntime, site: &S, cells: usize) -> anyhow::Result<()> {
     for cell in 0..cells {
         report_cell(rt, site, cell)?;
@@ -22,6 +21,7 @@ pub fn report<S: Site>(rt: &HostRuntime, site: &S, cells: usize) -> anyhow::Resu
     Ok(())
 }
 
+// Not the hexadecimal of shown: airtime stands on the sites, not on shown, and a space follows each octet here.
 fn show_octets(rt: &HostRuntime, octets: &[u8]) -> anyhow::Result<()> {
     for octet in octets {
         print!(rt; "{octet:02x} ")?;
@@ -30,48 +30,48 @@ fn show_octets(rt: &HostRuntime, octets: &[u8]) -> anyhow::Result<()> {
 }
 
 fn show_text(rt: &HostRuntime, octets: &[u8]) -> anyhow::Result<()> {
-    for octet in octets {
-        if *octet != 0 {
-            let letter = char::from(*octet);
-            print!(rt; "{letter}")?;
-        }
+    for octet in octets.iter().filter(|octet| **octet != 0) {
+        let letter = char::from(*octet);
+        print!(rt; "{letter}")?;
     }
     Ok(())
 }
 
 // A page: its heading of six octets, and the text of its content.
 fn show_page(rt: &HostRuntime, page: &[u8]) -> anyhow::Result<()> {
-    if page.len() < 6 {
-        return Ok(());
+    if let Some((heading, content)) = page.split_at_checked(6) {
+        print!(rt; "    ")?;
+        show_octets(rt, heading)?;
+        show_text(rt, content)?;
+        println!(rt; "")?;
     }
-    print!(rt; "    ")?;
-    show_octets(rt, &page[0..6])?;
-    show_text(rt, &page[6..])?;
-    println!(rt; "")?;
     Ok(())
 }
 
-// The broadcast that begins at a place; answers how many octets it has.
-fn show_record(rt: &HostRuntime, at: usize, octets: &[u8]) -> anyhow::Result<usize> {
-    let [cell, channel, _, _, _, _, _, parameter, ..] = octets else {
-        return Ok(0);
+// The broadcast that begins at a place; answers the octets behind it.
+fn show_record<'a>(rt: &HostRuntime, at: usize, octets: &'a [u8]) -> anyhow::Result<&'a [u8]> {
+    let [cell, channel, pages @ ..] = octets else {
+        return Ok(octets);
     };
-    let total = (parameter & 0x0f) as usize;
+    let Some(parameter) = pages.get(5) else {
+        return Ok(octets);
+    };
+    let total = usize::from(parameter & 0x0f);
     println!(rt; "  octet {at}: cell {cell}, channel {channel:02x}, pages {total}")?;
-    for page in octets[2..].chunks(PAGE).take(total) {
+    for page in pages.chunks(PAGE).take(total) {
         show_page(rt, page)?;
     }
-    Ok(2 + PAGE * total)
+    Ok(pages.get(PAGE * total..).unwrap_or(&[]))
 }
 
 // So many broadcasts from the front of a frame memory on.
 pub fn show_frames(rt: &HostRuntime, memory: &[u8], broadcasts: usize) -> anyhow::Result<()> {
-    let mut at = 0;
+    let mut behind = memory;
     for _ in 0..broadcasts {
-        if at < memory.len() {
-            at = at.saturating_add(show_record(rt, at, &memory[at..])?);
-        }
+        let at = memory.len().saturating_sub(behind.len());
+        behind = show_record(rt, at, behind)?;
     }
+    let at = memory.len().saturating_sub(behind.len());
     println!(rt; "  octet {at}: ..")?;
     Ok(())
 }

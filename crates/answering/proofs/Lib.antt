@@ -1,4 +1,3 @@
-pub mod Absent
 pub mod Rooms
 pub mod Listing
 pub mod Picks

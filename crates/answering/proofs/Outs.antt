@@ -24,10 +24,10 @@ use Rattle.rows.specs.declared.row.Row.{Row}
 use Rattle.rows.specs.Keys.{first_of, is_same}
 use Rattle.table.specs.declared.outcome.Outcome.{Outcome}
 use Rattle.table.specs.declared.references.Query.{Query}
+use Rattle.table.specs.Acts.{Acts}
 use Rattle.table.specs.Handling.{Stage, comes_of, handled, stage, step_on}
 use Rattle.table.specs.Outcomes.{no_cell, outcome}
-use Rattle.table.specs.References.{answer_reference, counted}
-use Rattle.table.specs.Settings.{Setting}
+use Rattle.table.specs.References.{counted, query_acts}
 use Rattle.answering.specs.Replies.{begun_list, completed_list, failed_list}
 use Rattle.answering.proofs.Listing.{room_failures, room_named}
 use Rattle.answering.proofs.Picks.{Either, OfCell, first_some, picked_cells, picked_few}
@@ -80,10 +80,10 @@ module _ (cells : List Cell) where
       room_failures (picked (failed_entry cells) out) (omega arith) (omega (arith, picked_few (failed_entry cells) out))
 
 -- what holds of whatever comes of a naming, holds of all that came
-module _ {R : Type 0} (answer : R → Setting → Outcome) (leaves : R → Setting → List (List Row)) (becomes : R → Setting → R) (cells : List Cell) (opened : ℕ → Bool) (T : Outcome → Type 0) (each : (q : R) (rows : List (List Row)) (n : Naming) → T (comes_of answer leaves becomes cells opened q rows n)) where
-  pub handled_all : (s : Stage R) (ns : List Naming) → AllByRecursion T s.out → AllByRecursion T (handled answer leaves becomes cells opened s ns).out
+module _ {R : Type 0} (acts : Acts R) (cells : List Cell) (opened : ℕ → Bool) (T : Outcome → Type 0) (each : (q : R) (rows : List (List Row)) (n : Naming) → T (comes_of acts cells opened q rows n)) where
+  pub handled_all : (s : Stage R) (ns : List Naming) → AllByRecursion T s.out → AllByRecursion T (handled acts cells opened s ns).out
   handled_all s [] a = a
-  handled_all s (n ∷ ns) a = handled_all (step_on answer leaves becomes cells opened s n) ns (All-push T s.out _ a (each s.request s.rows n))
+  handled_all s (n ∷ ns) a = handled_all (step_on acts cells opened s n) ns (All-push T s.out _ a (each s.request s.rows n))
 
 -- each outcome begins or fails; each of a query has a count or fails
 module _ (cells : List Cell) where
@@ -102,10 +102,7 @@ module _ (cells : List Cell) where
   counted_or_failed k None = tt
   counted_or_failed k (Some r) = tt
 
-  abbrev asked : Query → Setting → Outcome
-  asked q s = answer_reference q.key s
-
-  queried : (opened : ℕ → Bool) (q : Query) (rows : List (List Row)) (n : Naming) → CountedOrFailed (comes_of asked (λ q s. s.rows) (λ q s. q) cells opened q rows n)
+  queried : (opened : ℕ → Bool) (q : Query) (rows : List (List Row)) (n : Naming) → CountedOrFailed (comes_of query_acts cells opened q rows n)
   queried opened q rows (naming.Cell k) = counted_or_failed k (first_of (is_same q.key) (get_or rows k []))
   queried opened q rows (naming.NoCell e) = tt
 
@@ -122,4 +119,4 @@ module _ (cells : List Cell) where
       0 < length out → length (failed_list cells out) ≡ 0 → 1 ≤ length (completed_list cells out)
   counted_some opened key rows list l e =
       other_some (completed_entry cells) completed_meant (query_work cells opened key rows list).out l
-      (handled_all asked (λ q s. s.rows) (λ q s. q) cells opened CountedOrFailed (queried opened) (stage (record { key = key }) rows []) (namings cells (named_by list)) tt) e
+      (handled_all query_acts cells opened CountedOrFailed (queried opened) (stage (record { key = key }) rows []) (namings cells (named_by list)) tt) e

@@ -5,8 +5,9 @@ use Rattle.cells.specs.declared.cell.Cell.{Cell}
 use Rattle.elements.specs.declared.cause.Cause.{Cause}
 use Rattle.elements.specs.declared.faults.Fault.{Fault}
 use Rattle.elements.specs.declared.recovery.Recovery.{Recovery}
+use Rattle.elements.specs.Octets.{put}
 use Rattle.lists.specs.CellLists.{CellsV, cells_fit}
-use Rattle.messages.specs.Messages.{answer, error_for}
+use Rattle.messages.specs.Messages.{answer, error_for, spell}
 use Rattle.outcomes.specs.Works.{kill_work, query_work, reset_work, write_work}
 use Rattle.requests.specs.Requests.{ReferenceV, WriteReplaceV, reference, writing}
 use Rattle.rows.specs.declared.key.Key.{Key}
@@ -17,6 +18,11 @@ use Rattle.answering.specs.Replies.{begun_list, completed_list, failed_list, wri
 
 abbrev pub Spelt : AnswerV → Type 0
 Spelt a = spellable (answer a) ≡ true
+
+-- an answer stands at the start of a space: how long it is, and the space after it
+pub record Sent (a : AnswerV) (n : ℕ) (was is : List ℕ) : Type 0 where
+  pub len : n ≡ length (spell (answer a))
+  pub octets : is ≡ put (spell (answer a)) 0 was
 
 -- over 1 to 64 cells, and requests that can be read
 pub record RepliesFit : Type 0 where

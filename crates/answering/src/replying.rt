@@ -1,9 +1,10 @@
-// The reply to each request, from its lists. An empty list is absent.
+// The reply to each request, from its lists. An empty list is absent. A function for each, since each has elements of its
+// own, and takes the lists that it has.
 ghost use Rattle.std.specs.Prelude.{◌≡◌, [], ◌∷◌, map};
 ghost use Rattle.answers.specs.Answers.{answer_meant, done_meant};
 ghost use Rattle.elements.specs.Octets.{mapped};
 ghost use Rattle.lists.specs.CellLists.{cells_meant};
-ghost use Rattle.lists.specs.Kinds.{cell_meant, completed_kind, completed_meant, failed_meant};
+ghost use Rattle.lists.specs.Kinds.{cell_meant, completed_meant, failed_meant};
 ghost use Rattle.lists.specs.Listed.{listed};
 ghost use Rattle.requests.specs.Requests.{reference_meant, write_meant};
 ghost use Rattle.answering.specs.Replies.{done_in, failure_of, kill_reply, query_reply, reset_reply, restart_for, some_cells, some_list, write_reply};
@@ -17,27 +18,24 @@ use elements::broadcast::BroadcastType;
 use elements::recovery::Recovery;
 use lists::cells::Cells;
 use lists::entries::Entries;
+use lists::entry::ListEntry;
 use lists::kinds::{CellEntry, CompletedEntry, FailedEntry};
 use requests::request::{Reference, WriteReplace};
 
-fn some_completed<'a>(entries: &'a [CompletedEntry]) -> Option<Entries<'a, CompletedEntry>>
-    ensures { mapped (listed completed_kind completed_meant) result ≡ some_list (map completed_meant entries.now) }
+// The list of a slice's entries.
+fn some_entries<'a, E: ListEntry>(entries: &'a [E]) -> Option<Entries<'a, E>>
+    ensures { mapped (listed E.ListEntry.kind E.ListEntry.meant) result ≡ some_list (map E.ListEntry.meant entries.now) }
 {
-    if entries.is_empty() {
-        return None;
-    }
-    Some(Entries::Given(entries))
+    (!entries.is_empty()).then_some(Entries::Given(entries))
 }
 
 fn some_cells<'a>(entries: &'a [CellEntry]) -> Option<Cells<'a>>
     ensures { mapped cells_meant result ≡ some_cells (map cell_meant entries.now) }
 {
-    if entries.is_empty() {
-        return None;
-    }
-    Some(Cells::Named(Entries::Given(entries)))
+    some_entries(entries).map(|given| Cells::Named(given))
 }
 
+// No From: it is made of three.
 fn done_in<'a>(
     channel: Channel,
     completed: &'a [CompletedEntry],
@@ -46,7 +44,7 @@ fn done_in<'a>(
     ensures { done_meant result ≡ done_in channel (map completed_meant completed.now) (map cell_meant begun.now) }
 {
     Done {
-        completed: some_completed(completed),
+        completed: some_entries(completed),
         cells: some_cells(begun),
         channel: Some(channel),
     }
@@ -124,7 +122,7 @@ pub fn query_reply<'a>(
         serial: request.serial,
         failures: Entries::Given(failed),
         channel: request.channel,
-        completed: some_completed(completed),
+        completed: some_entries(completed),
     })
 }
 

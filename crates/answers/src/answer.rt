@@ -1,4 +1,5 @@
-// The answers and indications of the controller. Lists stay where they stand in the octets, or in the caller's slices.
+// The answers and indications of the controller. Lists stay where they stand in the octets, or in the caller's
+// slices. Identifier and serial numbers stand beside the rest, as the elements do in each message.
 use cbsp::channel::Channel;
 use elements::broadcast::BroadcastType;
 use elements::cause::Cause;
@@ -94,7 +95,7 @@ pub struct Failure<'a> {
 }
 
 // ERROR INDICATION: a request that could not be read.
-#[derive(Clone, Copy)]
+#[derive(Clone, Copy, PartialEq, Eq, Debug)]
 pub struct ErrorIndication {
     pub cause: Cause,
     pub identifier: Option<u16>,

@@ -3,4 +3,5 @@
 
 pub mod answer;
 pub mod laws;
+pub mod layouts;
 pub mod reading;

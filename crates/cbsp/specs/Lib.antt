@@ -1,7 +1,9 @@
 pub mod Refusals
 pub mod Channels
+pub mod Decoding
 pub mod Framing
 pub mod KeepAlive
 pub mod Types
 pub mod Serials
 pub mod PageParameter
+pub mod Octets

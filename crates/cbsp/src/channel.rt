@@ -1,48 +1,45 @@
 // The two channels of a cell on which messages are broadcast.
 ghost use Rattle.std.specs.Prelude.{◌≡◌};
 ghost use Rattle.cbsp.specs.Channels.{channel_code, channel_of};
+ghost use Rattle.cbsp.specs.Decoding.{decoded};
 
+use crate::code::UnknownCode;
 use std::fmt;
 
 #[derive(Clone, Copy, PartialEq, Eq, Debug)]
 pub enum Channel {
-    Basic,
-    Extended,
+    Basic = 0,
+    Extended = 1,
 }
 
-impl Channel {
-    // Its value in a Channel Indicator.
-    pub fn code(self) -> u8
-        ensures { result ≡ channel_code self }
-    {
-        match self {
-            Channel::Basic => 0,
-            Channel::Extended => 1,
-        }
-    }
+impl From<Channel> for u8 {
+    ghost from_gives = { λ v r. r ≡ channel_code v };
 
-    // The channel that an octet of a Channel Indicator stands for.
-    pub fn from_code(code: u8) -> Option<Channel>
-        ensures { result ≡ channel_of code }
-    {
+    fn from(channel: Channel) -> u8 {
+        channel as u8
+    }
+}
+
+impl TryFrom<u8> for Channel {
+    type Error = UnknownCode;
+
+    ghost try_from_gives = { λ o r. r ≡ decoded channel_of o };
+
+    fn try_from(code: u8) -> Result<Channel, UnknownCode> {
         match code {
-            0 => Some(Channel::Basic),
-            1 => Some(Channel::Extended),
-            _ => None,
-        }
-    }
-
-    // Its name in the standard.
-    fn name(self) -> &'static str {
-        match self {
-            Channel::Basic => "basic channel",
-            Channel::Extended => "extended channel",
+            0 => Ok(Channel::Basic),
+            1 => Ok(Channel::Extended),
+            _ => Err(UnknownCode(code)),
         }
     }
 }
 
+// Its name in the standard.
 impl fmt::Display for Channel {
     fn fmt<W: fmt::Write>(&self, f: &mut fmt::Formatter<W>) -> fmt::Result {
-        f.write_str(self.name())
+        f.write_str(match self {
+            Channel::Basic => "basic channel",
+            Channel::Extended => "extended channel",
+        })
     }
 }

@@ -12,14 +12,13 @@ pub const SECONDS: [u8; 38] = [
 pub fn seconds(code: u8) -> Option<u8>
     ensures { result ≡ seconds_of code }
 {
-    if code == 0 {
-        return None;
+    let place = (code as usize).checked_sub(1)?;
+    // by the index: of `get` on a constant array a proof knows nothing
+    if place < SECONDS.len() {
+        Some(SECONDS[place])
+    } else {
+        None
     }
-    let place = code as usize - 1;
-    if place >= SECONDS.len() {
-        return None;
-    }
-    Some(SECONDS[place])
 }
 
 // The largest code.

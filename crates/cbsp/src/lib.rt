@@ -3,9 +3,12 @@
 #![tactic(auto)]
 
 pub mod channel;
+pub mod code;
 pub mod framing;
 pub mod keep_alive;
+pub mod limits;
 pub mod message_type;
+pub mod octets;
 pub mod page;
 pub mod refusal;
 pub mod serial;

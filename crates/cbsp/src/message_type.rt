@@ -1,103 +1,85 @@
 // The type octet of a message.
 ghost use Rattle.std.specs.Prelude.{◌≡◌};
 ghost use Rattle.cbsp.specs.Types.{type_code, type_of};
+ghost use Rattle.cbsp.specs.Decoding.{decoded};
 
+use crate::code::UnknownCode;
 use std::fmt;
 
-#[derive(Clone, Copy)]
+#[derive(Clone, Copy, PartialEq, Eq, Debug)]
 pub enum MessageType {
-    WriteReplace,
-    WriteReplaceComplete,
-    WriteReplaceFailure,
-    Kill,
-    KillComplete,
-    KillFailure,
-    LoadQuery,
-    LoadQueryComplete,
-    LoadQueryFailure,
-    MessageStatusQuery,
-    MessageStatusQueryComplete,
-    MessageStatusQueryFailure,
-    SetDrx,
-    SetDrxComplete,
-    SetDrxFailure,
-    Reset,
-    ResetComplete,
-    ResetFailure,
-    Restart,
-    Failure,
-    ErrorIndication,
-    KeepAlive,
-    KeepAliveComplete,
+    WriteReplace = 0x01,
+    WriteReplaceComplete = 0x02,
+    WriteReplaceFailure = 0x03,
+    Kill = 0x04,
+    KillComplete = 0x05,
+    KillFailure = 0x06,
+    LoadQuery = 0x07,
+    LoadQueryComplete = 0x08,
+    LoadQueryFailure = 0x09,
+    MessageStatusQuery = 0x0a,
+    MessageStatusQueryComplete = 0x0b,
+    MessageStatusQueryFailure = 0x0c,
+    SetDrx = 0x0d,
+    SetDrxComplete = 0x0e,
+    SetDrxFailure = 0x0f,
+    Reset = 0x10,
+    ResetComplete = 0x11,
+    ResetFailure = 0x12,
+    Restart = 0x13,
+    Failure = 0x14,
+    ErrorIndication = 0x15,
+    KeepAlive = 0x16,
+    KeepAliveComplete = 0x17,
 }
 
-impl MessageType {
-    // The octet that stands for it.
-    pub fn code(self) -> u8
-        ensures { result ≡ type_code self }
-    {
-        match self {
-            MessageType::WriteReplace => 0x01,
-            MessageType::WriteReplaceComplete => 0x02,
-            MessageType::WriteReplaceFailure => 0x03,
-            MessageType::Kill => 0x04,
-            MessageType::KillComplete => 0x05,
-            MessageType::KillFailure => 0x06,
-            MessageType::LoadQuery => 0x07,
-            MessageType::LoadQueryComplete => 0x08,
-            MessageType::LoadQueryFailure => 0x09,
-            MessageType::MessageStatusQuery => 0x0a,
-            MessageType::MessageStatusQueryComplete => 0x0b,
-            MessageType::MessageStatusQueryFailure => 0x0c,
-            MessageType::SetDrx => 0x0d,
-            MessageType::SetDrxComplete => 0x0e,
-            MessageType::SetDrxFailure => 0x0f,
-            MessageType::Reset => 0x10,
-            MessageType::ResetComplete => 0x11,
-            MessageType::ResetFailure => 0x12,
-            MessageType::Restart => 0x13,
-            MessageType::Failure => 0x14,
-            MessageType::ErrorIndication => 0x15,
-            MessageType::KeepAlive => 0x16,
-            MessageType::KeepAliveComplete => 0x17,
-        }
-    }
+impl From<MessageType> for u8 {
+    ghost from_gives = { λ v r. r ≡ type_code v };
 
-    // The type that an octet stands for, nothing where it stands for none.
-    pub fn from_code(code: u8) -> Option<MessageType>
-        ensures { result ≡ type_of code }
-    {
+    fn from(kind: MessageType) -> u8 {
+        kind as u8
+    }
+}
+
+impl TryFrom<u8> for MessageType {
+    type Error = UnknownCode;
+
+    ghost try_from_gives = { λ o r. r ≡ decoded type_of o };
+
+    fn try_from(code: u8) -> Result<MessageType, UnknownCode> {
         match code {
-            0x01 => Some(MessageType::WriteReplace),
-            0x02 => Some(MessageType::WriteReplaceComplete),
-            0x03 => Some(MessageType::WriteReplaceFailure),
-            0x04 => Some(MessageType::Kill),
-            0x05 => Some(MessageType::KillComplete),
-            0x06 => Some(MessageType::KillFailure),
-            0x07 => Some(MessageType::LoadQuery),
-            0x08 => Some(MessageType::LoadQueryComplete),
-            0x09 => Some(MessageType::LoadQueryFailure),
-            0x0a => Some(MessageType::MessageStatusQuery),
-            0x0b => Some(MessageType::MessageStatusQueryComplete),
-            0x0c => Some(MessageType::MessageStatusQueryFailure),
-            0x0d => Some(MessageType::SetDrx),
-            0x0e => Some(MessageType::SetDrxComplete),
-            0x0f => Some(MessageType::SetDrxFailure),
-            0x10 => Some(MessageType::Reset),
-            0x11 => Some(MessageType::ResetComplete),
-            0x12 => Some(MessageType::ResetFailure),
-            0x13 => Some(MessageType::Restart),
-            0x14 => Some(MessageType::Failure),
-            0x15 => Some(MessageType::ErrorIndication),
-            0x16 => Some(MessageType::KeepAlive),
-            0x17 => Some(MessageType::KeepAliveComplete),
-            _ => None,
+            0x01 => Ok(MessageType::WriteReplace),
+            0x02 => Ok(MessageType::WriteReplaceComplete),
+            0x03 => Ok(MessageType::WriteReplaceFailure),
+            0x04 => Ok(MessageType::Kill),
+            0x05 => Ok(MessageType::KillComplete),
+            0x06 => Ok(MessageType::KillFailure),
+            0x07 => Ok(MessageType::LoadQuery),
+            0x08 => Ok(MessageType::LoadQueryComplete),
+            0x09 => Ok(MessageType::LoadQueryFailure),
+            0x0a => Ok(MessageType::MessageStatusQuery),
+            0x0b => Ok(MessageType::MessageStatusQueryComplete),
+            0x0c => Ok(MessageType::MessageStatusQueryFailure),
+            0x0d => Ok(MessageType::SetDrx),
+            0x0e => Ok(MessageType::SetDrxComplete),
+            0x0f => Ok(MessageType::SetDrxFailure),
+            0x10 => Ok(MessageType::Reset),
+            0x11 => Ok(MessageType::ResetComplete),
+            0x12 => Ok(MessageType::ResetFailure),
+            0x13 => Ok(MessageType::Restart),
+            0x14 => Ok(MessageType::Failure),
+            0x15 => Ok(MessageType::ErrorIndication),
+            0x16 => Ok(MessageType::KeepAlive),
+            0x17 => Ok(MessageType::KeepAliveComplete),
+            _ => Err(UnknownCode(code)),
         }
     }
+}
 
-    // Its name in the standard.
-    fn name(self) -> &'static str {
-        match self {
+// Its name in the standard.
+impl fmt::Display for MessageType {
+    fn fmt<W: fmt::Write>(&self, f: &mut fmt::Formatter<W>) -> fmt::Result {
+        f.write_str(match self {
             MessageType::WriteReplace => "WRITE-REPLACE",
             MessageType::WriteReplaceComplete => "WRITE-REPLACE COMPLETE",
             MessageType::WriteReplaceFailure => "WRITE-REPLACE FAILURE",
@@ -121,12 +103,6 @@ impl MessageType {
             MessageType::ErrorIndication => "ERROR INDICATION",
             MessageType::KeepAlive => "KEEP-ALIVE",
             MessageType::KeepAliveComplete => "KEEP-ALIVE COMPLETE",
-        }
-    }
-}
-
-impl fmt::Display for MessageType {
-    fn fmt<W: fmt::Write>(&self, f: &mut fmt::Formatter<W>) -> fmt::Result {
-        f.write_str(self.name())
+        })
     }
 }

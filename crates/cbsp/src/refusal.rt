@@ -6,48 +6,35 @@ use std::fmt;
 
 #[derive(Clone, Copy, PartialEq, Eq, Debug)]
 pub enum Refusal {
-    ReplySpaceTooSmall,
-    WrongMarkCount,
-    MessageTooLong,
-    MessageNotWhole,
-    LinkNotCurrent,
-    OpeningsUsedUp,
-    PeriodsUsedUp,
-    NoSuchCell,
-    CellAlreadySo,
-    FileLength,
-    FileHeading,
-    IdentityTwice,
-    UnknownCapability,
-    FrameMemoryTooSmall,
+    ReplySpaceTooSmall = 1,
+    WrongMarkCount = 2,
+    MessageTooLong = 3,
+    MessageNotWhole = 4,
+    LinkNotCurrent = 5,
+    OpeningsUsedUp = 6,
+    PeriodsUsedUp = 7,
+    NoSuchCell = 8,
+    CellAlreadySo = 9,
+    FileLength = 10,
+    FileHeading = 11,
+    IdentityTwice = 12,
+    UnknownCapability = 13,
+    FrameMemoryTooSmall = 14,
 }
 
-impl Refusal {
-    // The number by which the host knows it.
-    pub fn number(self) -> u8
-        ensures { result ≡ refusal_number self }
-    {
-        match self {
-            Refusal::ReplySpaceTooSmall => 1,
-            Refusal::WrongMarkCount => 2,
-            Refusal::MessageTooLong => 3,
-            Refusal::MessageNotWhole => 4,
-            Refusal::LinkNotCurrent => 5,
-            Refusal::OpeningsUsedUp => 6,
-            Refusal::PeriodsUsedUp => 7,
-            Refusal::NoSuchCell => 8,
-            Refusal::CellAlreadySo => 9,
-            Refusal::FileLength => 10,
-            Refusal::FileHeading => 11,
-            Refusal::IdentityTwice => 12,
-            Refusal::UnknownCapability => 13,
-            Refusal::FrameMemoryTooSmall => 14,
-        }
-    }
+// The number by which the host knows it.
+impl From<Refusal> for u8 {
+    ghost from_gives = { λ v r. r ≡ refusal_number v };
 
-    // What was wrong, in words.
-    fn reason(self) -> &'static str {
-        match self {
+    fn from(refusal: Refusal) -> u8 {
+        refusal as u8
+    }
+}
+
+// What was wrong, in words.
+impl fmt::Display for Refusal {
+    fn fmt<W: fmt::Write>(&self, f: &mut fmt::Formatter<W>) -> fmt::Result {
+        f.write_str(match self {
             Refusal::ReplySpaceTooSmall => "the reply space has fewer than 2,048 octets",
             Refusal::WrongMarkCount => "the marks are not 64 octets",
             Refusal::MessageTooLong => "the message has more than 2,048 octets",
@@ -63,12 +50,6 @@ impl Refusal {
             Refusal::IdentityTwice => "the cell file has an identity twice",
             Refusal::UnknownCapability => "the cell file has a capability other than 0, 1 and 3",
             Refusal::FrameMemoryTooSmall => "the frame memory has fewer than 21,152 octets",
-        }
-    }
-}
-
-impl fmt::Display for Refusal {
-    fn fmt<W: fmt::Write>(&self, f: &mut fmt::Formatter<W>) -> fmt::Result {
-        f.write_str(self.reason())
+        })
     }
 }

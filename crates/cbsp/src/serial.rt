@@ -9,7 +9,8 @@ pub fn serial_code(serial: u16) -> u16
     serial >> 4
 }
 
-// Whether two serial numbers have one code.
+// Whether two serial numbers have one code. By the codes: two serial numbers with one code are the same here,
+// and nowhere else.
 pub fn same_code(a: u16, b: u16) -> bool
     ensures { result ≡ same_code a b }
 {

@@ -1,34 +1,26 @@
 -- Searching the numbers below n for one that passes a test.
-use Rattle.std.proofs.Common.{◌≡◌, ℕ, zero, suc, ◌+◌, ◌<◌, Bool, true, false, sym, refl, subst, ⊎_elim, le_of_suc-le-suc, not-suc-le-zero, eq-or-lt_of_le, add-one, arith}
-use Rattle.std.proofs.lemmas.Bool.{or_from, or_left, or_right, or_parts}
+use Rattle.std.proofs.Common.{◌≡◌, ℕ, zero, suc, ◌+◌, ◌<◌, Bool, false, refl, subst, not-suc-le-zero, zero-add, add-zero, arith}
+use Rattle.std.specs.List.{list_any, range_with_len}
+use Rattle.std.proofs.lemmas.Bool.{or_parts}
 use Rattle.cells.specs.File.{any_below}
 
-pub any_none : (test : ℕ → Bool) → any_below test 0 ≡ false
-unfolding any_below
-any_none test = refl
-
-pub any_more : (test : ℕ → Bool) (n : ℕ) → any_below test n ≡ false → test n ≡ false → any_below test (n + 1) ≡ false
-unfolding any_below
-any_more test n e t = rw add-one (or_from (any_below test n) (test n) e t)
-
-pub any_found : (test : ℕ → Bool) (n k : ℕ) → k < n → test k ≡ true → true ≡ any_below test n
-unfolding any_below
-any_found test zero k h t = absurd (not-suc-le-zero h)
-any_found test (suc n) k h t =
-    ⊎_elim (λ (e : k ≡ n). sym (or_right (any_below test n) (test n) (subst (λ (m : ℕ). test m ≡ true) e t)))
-    (λ l. sym (or_left (any_below test n) (test n) (sym (any_found test n k l t)))) (eq-or-lt_of_le (le_of_suc-le-suc h))
+none_from : (test : ℕ → Bool) (a n : ℕ) → list_any test (range_with_len a n) ≡ false → (k : ℕ) → k < n → test (a + k) ≡ false
+none_from test a zero e k h = absurd (not-suc-le-zero h)
+none_from test a (suc n) e zero h = rw add-zero (or_parts (test a) (list_any test (range_with_len (a + 1) n)) e).0
+none_from test a (suc n) e (suc k) h =
+    let place : (a + 1) + k ≡ a + suc k = omega arith in
+    let rest = (or_parts (test a) (list_any test (range_with_len (a + 1) n)) e).1 in
+    subst (λ (m : ℕ). test m ≡ false) place (none_from test (a + 1) n rest k (omega arith))
 
 pub none_below : (test : ℕ → Bool) (n : ℕ) → any_below test n ≡ false → (k : ℕ) → k < n → test k ≡ false
-unfolding any_below
-none_below test zero e k h = absurd (not-suc-le-zero h)
-none_below test (suc n) e k h =
-    ⊎_elim (λ (q : k ≡ n). subst (λ (m : ℕ). test m ≡ false) (sym q) (or_parts (any_below test n) (test n) e).1)
-    (λ l. none_below test n (or_parts (any_below test n) (test n) e).0 k l) (eq-or-lt_of_le (le_of_suc-le-suc h))
+none_below test n e k h = rw zero-add at (none_from test 0 n e k h)
+
+same_from : (f g : ℕ → Bool) (a n : ℕ) → ((k : ℕ) → k < a + n → f k ≡ g k) → list_any f (range_with_len a n) ≡ list_any g (range_with_len a n)
+same_from f g a zero h = refl
+same_from f g a (suc n) h =
+    let here : f a ≡ g a = h a (omega arith) in
+    let more : list_any f (range_with_len (a + 1) n) ≡ list_any g (range_with_len (a + 1) n) = same_from f g (a + 1) n (λ k l. h k (omega arith)) in
+    cc
 
 pub any_same : (f g : ℕ → Bool) (n : ℕ) → ((k : ℕ) → k < n → f k ≡ g k) → any_below f n ≡ any_below g n
-unfolding any_below
-any_same f g zero h = refl
-any_same f g (suc n) h =
-    let here : f n ≡ g n = h n (omega arith) in
-    let before : any_below f n ≡ any_below g n = any_same f g n (λ k l. h k (omega arith)) in
-    cc
+any_same f g n h = same_from f g 0 n (λ k l. h k (omega arith))

@@ -1,6 +1,6 @@
 -- The cell file: octet n, octet w, n identities of w octets each, n capabilities of one octet each.
-use Rattle.std.specs.Prelude.{◌≡◌, ℕ, zero, suc, ◌+◌, ◌*◌, ◌<◌, Bool, false, cond, not, ◌&&◌, ◌||◌, List, [], ◌∷◌, map, length, is_some, Ok, Err, Result, ◌==◌, nat_lt, slice_index, slice_index_or}
-use Rattle.std.specs.List.{range_with_len}
+use Rattle.std.specs.Prelude.{◌≡◌, ℕ, ◌+◌, ◌*◌, ◌<◌, Bool, false, cond, not, ◌&&◌, List, [], ◌∷◌, map, length, is_some, Ok, Err, Result, ◌==◌, nat_lt, slice_index, slice_index_or}
+use Rattle.std.specs.List.{list_any, range_with_len}
 use Rattle.std.specs.Option.{unwrap_or}
 use Rattle.cbsp.specs.declared.refusal.Refusal.{Refusal}
 use Rattle.cbsp.specs.declared.refusal.Refusal.TheVariants.{FileLength, FileHeading, IdentityTwice, UnknownCapability}
@@ -14,9 +14,8 @@ abbrev pub two : List ℕ → ℕ → ℕ
 two os at = slice_index os at * 256 + slice_index os (at + 1)
 
 -- a number below n passes the test
-unfoldable pub any_below : (ℕ → Bool) → ℕ → Bool
-any_below test zero = false
-any_below test (suc n) = any_below test n || test n
+abbrev pub any_below : (ℕ → Bool) → ℕ → Bool
+any_below test n = list_any test (range_with_len 0 n)
 
 -- how many cells a file says that it lists
 abbrev pub cell_count : List ℕ → ℕ

@@ -1,17 +1,17 @@
 // A checked list of cells.
-ghost use Rattle.std.specs.Prelude.{◌<◌, ◌≤◌, vec_len, vec_capacity};
+ghost use Rattle.std.specs.Prelude.{◌<◌, length};
 ghost use Rattle.cells.specs.File.{Distinct};
 
 use crate::cell::Cell;
+use crate::file::MOST_CELLS;
+use bounded::list::Bounded;
 
 mod reading;
 
-// 1 to 64 cells, of which no two have the same identity. Its memory is reserved when it is made, so that reading a file needs none.
+// 1 to 64 cells, of which no two have the same identity.
 #[derive(Drop)]
 pub struct CellList {
-    cells: Vec<Cell>,
-    ghost some: { 0 < vec_len cells },
-    ghost few: { vec_len cells ≤ 64 },
-    ghost reserved: { 64 ≤ vec_capacity cells },
-    ghost distinct: { Distinct cells.items },
+    cells: Bounded<Cell, MOST_CELLS>,
+    ghost some: { 0 < length cells },
+    ghost distinct: { Distinct cells },
 }

@@ -1,77 +1,99 @@
 // Ways in which octets are damaged.
 use crate::numbers::Numbers;
-use std::alloc::AllocError;
+use std::alloc::{AllocError, Global};
 
-fn change_octet(numbers: &mut Numbers, octets: &mut Vec<u8>) {
-    let place = numbers.below(octets.len());
-    if place < octets.len() {
-        octets[place] = numbers.octet();
-    }
+// What is done at a place.
+#[derive(Clone, Copy, PartialEq, Eq, Debug)]
+enum Damage {
+    Change,
+    // A small change, which often gives another value in range.
+    Raise,
+    Remove,
+    Insert,
+    Cut,
 }
 
-// A small change, which often gives another value in range.
-fn raise_octet(numbers: &mut Numbers, octets: &mut Vec<u8>) {
-    let place = numbers.below(octets.len());
-    if place < octets.len() {
-        octets[place] = octets[place].wrapping_add(1);
-    }
-}
-
-fn remove_octet(numbers: &mut Numbers, octets: &mut Vec<u8>) {
-    let place = numbers.below(octets.len());
-    if place < octets.len() {
-        octets.remove(place);
-    }
-}
-
-fn insert_octet(numbers: &mut Numbers, octets: &mut Vec<u8>) -> Result<(), AllocError> {
-    let place = numbers.below(octets.len());
-    if place < octets.len() {
-        octets.insert(place, numbers.octet())?;
-    }
-    Ok(())
-}
-
-fn cut(numbers: &mut Numbers, octets: &mut Vec<u8>) {
-    let length = numbers.below(octets.len());
-    octets.truncate(length);
-}
+const DAMAGES: [Damage; 6] = [
+    Damage::Change,
+    Damage::Change,
+    Damage::Raise,
+    Damage::Remove,
+    Damage::Insert,
+    Damage::Cut,
+];
 
 // Writes the length of what follows the header into it.
-pub fn mend_length(octets: &mut Vec<u8>) {
-    if octets.len() < 4 || octets.len() > 65539 {
+fn mend_length(octets: &mut [u8]) {
+    if octets.len() < 4 {
         return;
     }
-    let body = octets.len() - 4;
-    octets[1] = 0;
-    octets[2] = (body / 256) as u8;
-    octets[3] = (body % 256) as u8;
+    if let Ok(body) = u16::try_from(octets.len() - 4) {
+        let [upper, lower] = body.to_be_bytes();
+        octets[1..4].copy_from_slice(&[0, upper, lower]);
+    }
 }
 
-// One damage of some kind; mostly the header's length is mended after it.
-pub fn damage(numbers: &mut Numbers, octets: &mut Vec<u8>) -> Result<(), AllocError> {
-    match numbers.below(6) {
-        0 | 1 => change_octet(numbers, octets),
-        2 => raise_octet(numbers, octets),
-        3 => remove_octet(numbers, octets),
-        4 => insert_octet(numbers, octets)?,
-        _ => cut(numbers, octets),
-    }
-    if numbers.below(8) > 0 {
-        mend_length(octets);
-    }
-    Ok(())
+// Octets to be tried, and the numbers that say how they are made.
+#[derive(Drop)]
+pub struct Trial {
+    numbers: Numbers,
+    octets: Vec<u8>,
 }
 
-// Random octets behind a header of a random type.
-pub fn random_message(numbers: &mut Numbers, octets: &mut Vec<u8>) -> Result<(), AllocError> {
-    octets.clear();
-    let length = numbers.below(24);
-    for _ in 0..length.saturating_add(4) {
-        octets.push(numbers.octet() % 0x19)?;
+impl Trial {
+    pub fn new(heap: Global, start: u64) -> Trial {
+        Trial {
+            numbers: Numbers::new(start),
+            octets: Vec::new(heap),
+        }
     }
-    if numbers.below(8) > 0 {
-        mend_length(octets);
+
+    pub fn octets(&self) -> &[u8] {
+        self.octets.as_slice()
     }
-    Ok(())
+
+    // Mostly the header's length is mended after a damage.
+    fn mend_mostly(&mut self) {
+        if self.numbers.draw() % 8 > 0 {
+            mend_length(self.octets.as_mut_slice());
+        }
+    }
+
+    // One damage of some kind.
+    fn damage(&mut self) -> Result<(), AllocError> {
+        let damage = DAMAGES[self.numbers.draw() % DAMAGES.len()];
+        if let Some(place) = self.numbers.place(self.octets.len()) {
+            match damage {
+                Damage::Change => self.octets[place] = self.numbers.octet(),
+                Damage::Raise => self.octets[place] = self.octets[place].wrapping_add(1),
+                Damage::Remove => {
+                    self.octets.remove(place);
+                }
+                Damage::Insert => self.octets.insert(place, self.numbers.octet())?,
+                Damage::Cut => self.octets.truncate(place),
+            }
+        }
+        self.mend_mostly();
+        Ok(())
+    }
+
+    // A message with one to three damages.
+    pub fn damage_message(&mut self, message: &[u8]) -> Result<(), AllocError> {
+        self.octets.clear();
+        self.octets.extend_from_slice(message)?;
+        for _ in 0..=self.numbers.draw() % 3 {
+            self.damage()?;
+        }
+        Ok(())
+    }
+
+    // Random octets behind a header of a random type.
+    pub fn random_message(&mut self) -> Result<(), AllocError> {
+        self.octets.clear();
+        for _ in 0..self.numbers.draw() % 24 + 4 {
+            self.octets.push(self.numbers.octet() % 0x19)?;
+        }
+        self.mend_mostly();
+        Ok(())
+    }
 }

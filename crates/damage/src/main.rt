@@ -12,6 +12,5 @@ mod trials;
 fn main(rt: HostRuntime) -> io::Result<()> {
     let mut stream = Vec::new(rt.alloc());
     rt.stdin().read_to_end(&mut stream)?;
-    let tally = trials::run(rt.alloc(), stream.as_slice())?;
-    tally.show(&rt)
+    rt.println(trials::run(rt.alloc(), stream.as_slice())?)
 }

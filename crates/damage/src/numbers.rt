@@ -1,4 +1,6 @@
 // Numbers that look random, the same in every run: a linear congruential generator.
+ghost use Rattle.std.specs.Prelude.{◌≡◌, ◌<◌, MatchOption};
+
 #[derive(Drop)]
 pub struct Numbers {
     state: u64,
@@ -9,7 +11,8 @@ impl Numbers {
         Numbers { state: start }
     }
 
-    fn next(&mut self) -> usize {
+    // The next number, of 31 bits.
+    pub fn draw(&mut self) -> usize {
         self.state = self
             .state
             .wrapping_mul(6364136223846793005)
@@ -17,15 +20,17 @@ impl Numbers {
         (self.state >> 33) as usize
     }
 
-    // A number below a bound, 0 where the bound is 0.
-    pub fn below(&mut self, bound: usize) -> usize {
-        if bound == 0 {
-            return 0;
+    // A place among so many, nothing where there is none.
+    pub fn place(&mut self, count: usize) -> Option<usize>
+        ensures { MatchOption result (count ≡ 0) (λ n. n < count) }
+    {
+        if count == 0 {
+            return None;
         }
-        self.next() % bound
+        Some(self.draw() % count)
     }
 
     pub fn octet(&mut self) -> u8 {
-        (self.next() & 0xff) as u8
+        (self.draw() & 0xff) as u8
     }
 }

@@ -1,6 +1,8 @@
 // The trials: each message of a stream damaged in many ways, then random ones.
-use crate::damages::{damage, random_message};
-use crate::numbers::Numbers;
+ghost use Rattle.std.specs.Prelude.{length};
+ghost use Rattle.std.specs.Iterator.{at_most};
+
+use crate::damages::Trial;
 use crate::tally::Tally;
 use cbsp::framing::first_length;
 use std::alloc::{AllocError, Global};
@@ -11,75 +13,47 @@ const DAMAGED: u32 = 4000;
 
 const RANDOM: u32 = 60000;
 
-// The first message of a stream, nothing where there is none whole.
-fn first(stream: &[u8]) -> Option<usize> {
-    match first_length(stream) {
-        Ok(found) => found,
-        Err(_) => None,
+// The whole messages at the front of a stream. Not the parts of inspect: a program is no library, and nothing
+// is told here of what is left.
+#[derive(Drop)]
+struct Messages<'a>(&'a [u8]);
+
+impl<'a> Iterator for Messages<'a> {
+    type Item = &'a [u8];
+
+    ghost remaining = { λ s. at_most (length s.0.now) };
+
+    fn next(&mut self) -> Option<&'a [u8]> {
+        let length = first_length(self.0).ok().flatten()?;
+        let (message, rest) = self.0.split_at(length);
+        self.0 = rest;
+        Some(message)
     }
 }
 
-// A message with one to three damages.
-fn try_damaged(
-    numbers: &mut Numbers,
-    tally: &mut Tally,
-    space: &mut Vec<u8>,
-    message: &[u8],
-) -> Result<(), AllocError> {
-    space.clear();
-    space.extend_from_slice(message)?;
-    for _ in 0..numbers.below(3).saturating_add(1) {
-        damage(numbers, space)?;
-    }
-    tally.count(space.as_slice());
-    Ok(())
-}
-
-fn try_message(
-    numbers: &mut Numbers,
-    tally: &mut Tally,
-    space: &mut Vec<u8>,
-    message: &[u8],
-) -> Result<(), AllocError> {
+fn try_message(trial: &mut Trial, tally: &mut Tally, message: &[u8]) -> Result<(), AllocError> {
     tally.count(message);
     for _ in 0..DAMAGED {
-        try_damaged(numbers, tally, space, message)?;
+        trial.damage_message(message)?;
+        tally.count(trial.octets());
     }
     Ok(())
 }
 
-fn try_random(
-    numbers: &mut Numbers,
-    tally: &mut Tally,
-    space: &mut Vec<u8>,
-) -> Result<(), AllocError> {
+fn try_random(trial: &mut Trial, tally: &mut Tally) -> Result<(), AllocError> {
     for _ in 0..RANDOM {
-        random_message(numbers, space)?;
-        tally.count(space.as_slice());
+        trial.random_message()?;
+        tally.count(trial.octets());
     }
     Ok(())
 }
 
 pub fn run(heap: Global, stream: &[u8]) -> Result<Tally, AllocError> {
-    let mut numbers = Numbers::new(START);
-    let mut tally = Tally::new();
-    let mut space = Vec::new(heap);
-    let mut at = 0;
-    while at < stream.len() {
-        let Some(length) = first(&stream[at..]) else {
-            break;
-        };
-        if length == 0 || length > stream.len() - at {
-            break;
-        }
-        try_message(
-            &mut numbers,
-            &mut tally,
-            &mut space,
-            &stream[at..at + length],
-        )?;
-        at += length;
+    let mut trial = Trial::new(heap, START);
+    let mut tally = Tally::default();
+    for message in Messages(stream) {
+        try_message(&mut trial, &mut tally, message)?;
     }
-    try_random(&mut numbers, &mut tally, &mut space)?;
+    try_random(&mut trial, &mut tally)?;
     Ok(tally)
 }

@@ -6,3 +6,4 @@ pub mod Codings
 pub mod Whole
 pub mod PartLaws
 pub mod Progress
+pub mod Appending

@@ -5,3 +5,6 @@ pub mod Elements
 pub mod Codec
 pub mod Parts
 pub mod Whole
+pub mod Reads
+pub mod Writes
+pub mod Pairs

@@ -1,30 +1,45 @@
 // The Broadcast Message Type: of which messages RESTART and FAILURE speak.
 ghost use Rattle.std.specs.Prelude.{◌≡◌};
+ghost use Rattle.cbsp.specs.Decoding.{decoded};
 ghost use Rattle.elements.specs.Codes.{broadcast_code, broadcast_of};
+
+use cbsp::code::UnknownCode;
+use std::fmt;
 
 #[derive(Clone, Copy, PartialEq, Eq, Debug)]
 pub enum BroadcastType {
-    Ordinary,
-    Emergency,
+    Ordinary = 0,
+    Emergency = 1,
 }
 
-impl BroadcastType {
-    pub fn code(self) -> u8
-        ensures { result ≡ broadcast_code self }
-    {
-        match self {
-            BroadcastType::Ordinary => 0,
-            BroadcastType::Emergency => 1,
+impl From<BroadcastType> for u8 {
+    ghost from_gives = { λ v r. r ≡ broadcast_code v };
+
+    fn from(broadcast: BroadcastType) -> u8 {
+        broadcast as u8
+    }
+}
+
+impl TryFrom<u8> for BroadcastType {
+    type Error = UnknownCode;
+
+    ghost try_from_gives = { λ o r. r ≡ decoded broadcast_of o };
+
+    fn try_from(code: u8) -> Result<BroadcastType, UnknownCode> {
+        match code {
+            0 => Ok(BroadcastType::Ordinary),
+            1 => Ok(BroadcastType::Emergency),
+            _ => Err(UnknownCode(code)),
         }
     }
+}
 
-    pub fn from_code(code: u8) -> Option<BroadcastType>
-        ensures { result ≡ broadcast_of code }
-    {
-        match code {
-            0 => Some(BroadcastType::Ordinary),
-            1 => Some(BroadcastType::Emergency),
-            _ => None,
-        }
+// Its name in the standard (3GPP TS 48.049, 8.2).
+impl fmt::Display for BroadcastType {
+    fn fmt<W: fmt::Write>(&self, f: &mut fmt::Formatter<W>) -> fmt::Result {
+        f.write_str(match self {
+            BroadcastType::Ordinary => "CBS message broadcasting",
+            BroadcastType::Emergency => "emergency message broadcasting",
+        })
     }
 }

@@ -1,6 +1,8 @@
-// Values of one octet that have a code for each case.
+// Values of one octet that have a code for each case. Five impls alike: each names its own two tables in ghost
+// members, which a macro or derive of our own can't write.
 ghost use Rattle.std.specs.Prelude.{◌≡◌, ℕ, Option};
 ghost use Rattle.cbsp.specs.Channels.{channel_code, channel_of};
+ghost use Rattle.cbsp.specs.Decoding.{decoded};
 ghost use Rattle.elements.specs.Codes.{broadcast_code, broadcast_of, category_code, category_of, cause_code, cause_of, recovery_code, recovery_of};
 
 use crate::broadcast::BroadcastType;
@@ -8,17 +10,17 @@ use crate::category::Category;
 use crate::cause::Cause;
 use crate::recovery::Recovery;
 use cbsp::channel::Channel;
+use cbsp::code::UnknownCode;
 
-pub trait Coded: Sized {
+// Its conversions from and to an octet go by two tables.
+pub trait Coded: TryFrom<u8, Error = UnknownCode> + Into<u8> {
     ghost encode: { Self → ℕ };
 
     ghost decode: { ℕ → Option Self };
 
-    fn to_octet(&self) -> u8
-        ensures { result ≡ encode self.now };
+    ghost decodes: { (o : ℕ) (r : _) → Self.try_from_gives o r → r ≡ decoded decode o };
 
-    fn from_octet(octet: u8) -> Option<Self>
-        ensures { result ≡ decode octet };
+    ghost encodes: { (v : Self) (o : ℕ) → Self.converts v o → o ≡ encode v };
 }
 
 impl Coded for Channel {
@@ -26,13 +28,9 @@ impl Coded for Channel {
 
     ghost decode = { channel_of };
 
-    fn to_octet(&self) -> u8 {
-        self.code()
-    }
+    ghost decodes = { λ o r h. h };
 
-    fn from_octet(octet: u8) -> Option<Self> {
-        Channel::from_code(octet)
-    }
+    ghost encodes = { λ v o h. h };
 }
 
 impl Coded for Cause {
@@ -40,13 +38,9 @@ impl Coded for Cause {
 
     ghost decode = { cause_of };
 
-    fn to_octet(&self) -> u8 {
-        self.code()
-    }
+    ghost decodes = { λ o r h. h };
 
-    fn from_octet(octet: u8) -> Option<Self> {
-        Cause::from_code(octet)
-    }
+    ghost encodes = { λ v o h. h };
 }
 
 impl Coded for Category {
@@ -54,13 +48,9 @@ impl Coded for Category {
 
     ghost decode = { category_of };
 
-    fn to_octet(&self) -> u8 {
-        self.code()
-    }
+    ghost decodes = { λ o r h. h };
 
-    fn from_octet(octet: u8) -> Option<Self> {
-        Category::from_code(octet)
-    }
+    ghost encodes = { λ v o h. h };
 }
 
 impl Coded for Recovery {
@@ -68,13 +58,9 @@ impl Coded for Recovery {
 
     ghost decode = { recovery_of };
 
-    fn to_octet(&self) -> u8 {
-        self.code()
-    }
+    ghost decodes = { λ o r h. h };
 
-    fn from_octet(octet: u8) -> Option<Self> {
-        Recovery::from_code(octet)
-    }
+    ghost encodes = { λ v o h. h };
 }
 
 impl Coded for BroadcastType {
@@ -82,11 +68,7 @@ impl Coded for BroadcastType {
 
     ghost decode = { broadcast_of };
 
-    fn to_octet(&self) -> u8 {
-        self.code()
-    }
+    ghost decodes = { λ o r h. h };
 
-    fn from_octet(octet: u8) -> Option<Self> {
-        BroadcastType::from_code(octet)
-    }
+    ghost encodes = { λ v o h. h };
 }

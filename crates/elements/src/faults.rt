@@ -29,20 +29,16 @@ impl From<EntryFault> for ElementFault {
 // How deep the reading had come: the type, the order of the elements, a value.
 #[derive(Clone, Copy, PartialEq, Eq, Debug)]
 pub enum Layer {
-    Type,
-    Elements,
-    Values,
+    Type = 1,
+    Elements = 2,
+    Values = 3,
 }
 
-impl Layer {
-    pub fn number(self) -> u8
-        ensures { result ≡ layer_number self }
-    {
-        match self {
-            Layer::Type => 1,
-            Layer::Elements => 2,
-            Layer::Values => 3,
-        }
+impl From<Layer> for u8 {
+    ghost from_gives = { λ v r. r ≡ layer_number v };
+
+    fn from(layer: Layer) -> u8 {
+        layer as u8
     }
 }
 
@@ -78,7 +74,8 @@ impl From<ElementFault> for Fault {
     }
 }
 
-// A mandatory element is not at its place.
+// A mandatory element is not at its place. A struct literal, as for the other faults: it names cause, layer and
+// place, which a constructor of three arguments would not.
 pub fn missing(place: usize) -> Fault
     ensures { result ≡ missed place }
 {

@@ -1,107 +1,187 @@
 // The elements of fixed length that messages are made of.
-ghost use Rattle.std.specs.Prelude.{◌≡◌};
-ghost use Rattle.elements.specs.Parts.{broadcasts_requested, coding_scheme, identifier, keep_alive_period, may_identifier, may_new_serial, may_old_serial, new_serial, number_of_pages, old_serial, repetition_period};
-ghost use Rattle.elements.specs.Whole.{ended};
+ghost use Rattle.std.specs.Prelude.{◌≡◌, ℕ, ◌≤◌, Option};
+ghost use Rattle.cbsp.specs.Channels.{channel_code, channel_of};
+ghost use Rattle.cbsp.specs.declared.channel.Channel.{Channel as OneChannel};
+ghost use Rattle.elements.specs.Codec.{channel as channel_codec, coded_body, number_body, octet_body};
 
+use crate::broadcast::BroadcastType;
+use crate::coded::Coded;
+use crate::element::{Element, Identified};
+use crate::elements::{Elements, Must, limit};
 use crate::faults::{ElementFault, Fault};
-use crate::reading::{mandatory_number, mandatory_octet, optional_number};
+use crate::reader::Reader;
+use crate::recovery::Recovery;
+use crate::writer::Writer;
+use crate::{category, cause};
+use cbsp::channel;
+use cbsp::octets::two_at;
+use std::marker::PhantomData;
 
-pub const OLD_SERIAL_NUMBER: u8 = 0x02;
+// A number of two octets from LO to HI.
+pub struct Number<const ID: u8, const LO: u16, const HI: u16>;
 
-pub const NEW_SERIAL_NUMBER: u8 = 0x03;
+impl<const ID: u8, const LO: u16, const HI: u16> Identified for Number<ID, LO, HI> {
+    const ID: u8 = ID;
 
-pub const CATEGORY: u8 = 0x05;
-
-pub const REPETITION_PERIOD: u8 = 0x06;
-
-pub const BROADCASTS_REQUESTED: u8 = 0x07;
-
-pub const CAUSE: u8 = 0x0b;
-
-pub const DATA_CODING_SCHEME: u8 = 0x0c;
-
-pub const RECOVERY_INDICATION: u8 = 0x0d;
-
-pub const MESSAGE_IDENTIFIER: u8 = 0x0e;
-
-pub const NUMBER_OF_PAGES: u8 = 0x13;
-
-pub const BROADCAST_MESSAGE_TYPE: u8 = 0x16;
-
-pub const KEEP_ALIVE_PERIOD: u8 = 0x18;
-
-pub fn message_identifier(octets: &[u8], at: usize) -> Result<(u16, usize), Fault>
-    ensures { result ≡ identifier.read octets.now at }
-{
-    mandatory_number(octets, at, MESSAGE_IDENTIFIER, 0, 65535)
+    ghost ID = { ID };
 }
 
-pub fn optional_message_identifier(octets: &[u8], at: usize) -> Result<(Option<u16>, usize), Fault>
-    ensures { result ≡ may_identifier.read octets.now at }
-{
-    optional_number(octets, at, MESSAGE_IDENTIFIER, 0, 65535)
-}
+impl<'a, const ID: u8, const LO: u16, const HI: u16> Element<'a> for Number<ID, LO, HI> {
+    type Value = u16;
 
-pub fn new_serial_number(octets: &[u8], at: usize) -> Result<(u16, usize), Fault>
-    ensures { result ≡ new_serial.read octets.now at }
-{
-    mandatory_number(octets, at, NEW_SERIAL_NUMBER, 0, 65535)
-}
+    ghost Meaning = { ℕ };
 
-pub fn optional_new_serial_number(octets: &[u8], at: usize) -> Result<(Option<u16>, usize), Fault>
-    ensures { result ≡ may_new_serial.read octets.now at }
-{
-    optional_number(octets, at, NEW_SERIAL_NUMBER, 0, 65535)
-}
+    ghost meant = { λ n. n };
 
-pub fn old_serial_number(octets: &[u8], at: usize) -> Result<(u16, usize), Fault>
-    ensures { result ≡ old_serial.read octets.now at }
-{
-    mandatory_number(octets, at, OLD_SERIAL_NUMBER, 0, 65535)
-}
+    ghost body = { number_body LO HI };
 
-pub fn optional_old_serial_number(octets: &[u8], at: usize) -> Result<(Option<u16>, usize), Fault>
-    ensures { result ≡ may_old_serial.read octets.now at }
-{
-    optional_number(octets, at, OLD_SERIAL_NUMBER, 0, 65535)
-}
-
-pub fn repetition_period(octets: &[u8], at: usize) -> Result<(u16, usize), Fault>
-    ensures { result ≡ repetition_period.read octets.now at }
-{
-    mandatory_number(octets, at, REPETITION_PERIOD, 1, 4095)
-}
-
-pub fn broadcasts_requested(octets: &[u8], at: usize) -> Result<(u16, usize), Fault>
-    ensures { result ≡ broadcasts_requested.read octets.now at }
-{
-    mandatory_number(octets, at, BROADCASTS_REQUESTED, 0, 65535)
-}
-
-pub fn number_of_pages(octets: &[u8], at: usize) -> Result<(u8, usize), Fault>
-    ensures { result ≡ number_of_pages.read octets.now at }
-{
-    mandatory_octet(octets, at, NUMBER_OF_PAGES, 1, 15)
-}
-
-pub fn data_coding_scheme(octets: &[u8], at: usize) -> Result<(u8, usize), Fault>
-    ensures { result ≡ coding_scheme.read octets.now at }
-{
-    mandatory_octet(octets, at, DATA_CODING_SCHEME, 0, 255)
-}
-
-pub fn keep_alive_period(octets: &[u8], at: usize) -> Result<(u8, usize), Fault>
-    ensures { result ≡ keep_alive_period.read octets.now at }
-{
-    mandatory_octet(octets, at, KEEP_ALIVE_PERIOD, 1, 38)
-}
-
-// Nothing may follow the last element.
-pub fn end_here(octets: &[u8], at: usize) -> Result<(), Fault>
-    ensures { result ≡ ended octets.now (tt, at) }
-{
-    if at < octets.len() {
-        return Err(Fault::from(ElementFault::Unknown(at)));
+    // What is left is asked before the octets: a number cut off is another fault than one out of range.
+    fn read(reader: &mut Reader<'a>, start: usize) -> Result<u16, ElementFault> {
+        if reader.left() < 2 {
+            return Err(ElementFault::RunsPast(start));
+        }
+        let number = two_at(reader.octets, reader.at);
+        if !(LO..=HI).contains(&number) {
+            return Err(ElementFault::OutOfRange(reader.at));
+        }
+        reader.at += 2;
+        Ok(number)
     }
-    Ok(())
+
+    fn width(value: u16) -> Option<usize> {
+        (LO..=HI).contains(&value).then_some(2)
+    }
+
+    fn put(writer: &mut Writer<'_>, value: u16) {
+        writer.put_two(value);
+    }
+}
+
+// An octet from LO to HI.
+pub struct Octet<const ID: u8, const LO: u8, const HI: u8>;
+
+impl<const ID: u8, const LO: u8, const HI: u8> Identified for Octet<ID, LO, HI> {
+    const ID: u8 = ID;
+
+    ghost ID = { ID };
+}
+
+impl<'a, const ID: u8, const LO: u8, const HI: u8> Element<'a> for Octet<ID, LO, HI> {
+    type Value = u8;
+
+    ghost Meaning = { ℕ };
+
+    ghost meant = { λ n. n };
+
+    ghost body = { octet_body LO HI };
+
+    fn read(reader: &mut Reader<'a>, start: usize) -> Result<u8, ElementFault> {
+        let value = reader.octet(start)?;
+        if !(LO..=HI).contains(&value) {
+            return Err(ElementFault::OutOfRange(reader.at));
+        }
+        reader.at += 1;
+        Ok(value)
+    }
+
+    fn width(value: u8) -> Option<usize> {
+        (LO..=HI).contains(&value).then_some(1)
+    }
+
+    fn put(writer: &mut Writer<'_>, value: u8) {
+        writer.put_octet(value);
+    }
+}
+
+// A value that has a code of one octet.
+pub struct Code<const ID: u8, C>(PhantomData<C>);
+
+impl<const ID: u8, C> Identified for Code<ID, C> {
+    const ID: u8 = ID;
+
+    ghost ID = { ID };
+}
+
+impl<'a, const ID: u8, C: Coded + Copy> Element<'a> for Code<ID, C> {
+    type Value = C;
+
+    ghost Meaning = { C };
+
+    ghost meant = { λ v. v };
+
+    ghost body = { coded_body C.Coded.encode C.Coded.decode };
+
+    fn read(reader: &mut Reader<'a>, start: usize) -> Result<C, ElementFault> {
+        let octet = reader.octet(start)?;
+        let Ok(value) = C::try_from(octet) else {
+            return Err(ElementFault::OutOfRange(reader.at));
+        };
+        reader.at += 1;
+        Ok(value)
+    }
+
+    fn width(_value: C) -> Option<usize> {
+        Some(1)
+    }
+
+    fn put(writer: &mut Writer<'_>, value: C) {
+        writer.put_octet(value.into());
+    }
+}
+
+// The identifier of an Emergency Indicator.
+const EMERGENCY_INDICATOR: u8 = 0x0f;
+
+pub type OldSerialNumber = Number<0x02, 0, 65535>;
+
+pub type NewSerialNumber = Number<0x03, 0, 65535>;
+
+pub type Category = Code<0x05, category::Category>;
+
+pub type RepetitionPeriod = Number<0x06, 1, 4095>;
+
+pub type BroadcastsRequested = Number<0x07, 0, 65535>;
+
+pub type Cause = Code<0x0b, cause::Cause>;
+
+pub type DataCodingScheme = Octet<0x0c, 0, 255>;
+
+pub type RecoveryIndication = Code<0x0d, Recovery>;
+
+pub type MessageIdentifier = Number<0x0e, 0, 65535>;
+
+pub type ChannelIndicator = Code<0x12, channel::Channel>;
+
+pub type NumberOfPages = Octet<0x13, 1, 15>;
+
+pub type BroadcastMessageType = Code<0x16, BroadcastType>;
+
+pub type KeepAlivePeriod = Octet<0x18, 1, 38>;
+
+// A Channel Indicator that must be there: an Emergency Indicator in its place is not recognised.
+pub struct MustChannel;
+
+impl<'a> Elements<'a> for MustChannel {
+    type Value = channel::Channel;
+
+    ghost Meaning = { OneChannel };
+
+    ghost meant = { λ c. c };
+
+    ghost codec = { channel_codec };
+
+    fn read(reader: &mut Reader<'a>) -> Result<channel::Channel, Fault> {
+        if reader.octets.get(reader.at) == Some(&EMERGENCY_INDICATOR) {
+            return Err(Fault::from(ElementFault::Unknown(reader.at)));
+        }
+        Must::<ChannelIndicator>::read(reader)
+    }
+
+    fn width(value: channel::Channel) -> Option<usize> {
+        Must::<ChannelIndicator>::width(value)
+    }
+
+    fn put(writer: &mut Writer<'_>, value: channel::Channel) {
+        Must::<ChannelIndicator>::put(writer, value);
+    }
 }

@@ -1,8 +1,8 @@
 -- A period over a frame site, from its calls to its memory.
-use Rattle.std.proofs.Common.{ℕ, Bool, List, [], ◌∷◌, ap, ◌∙◌, arith}
+use Rattle.std.proofs.Common.{ℕ, Bool, List, [], ◌∷◌, ◌∙◌, arith}
 use Rattle.frame.specs.declared.frame_site.FrameSite.{FrameSite}
 use Rattle.frame.specs.Frame.{frame_model, Steps}
-use Rattle.frame.specs.Frames.{WithinPeriod, frames_of, behind, Written, Ample}
+use Rattle.frame.specs.Frames.{WithinPeriod, Written, Ample}
 use Rattle.frame.proofs.Packing.{packs}
 use Rattle.site.specs.declared.period.Offer.{Offer}
 use Rattle.site.specs.Period.{events, Period}
@@ -23,10 +23,6 @@ module _ (s t : FrameSite) (os : List Offer) (n : ℕ) (p : Period frame_model S
 
   pub framed : Framed s os n t
   framed =
-      let frames = frames_of (events os p.served.offers.answers) in
+      let w = written in
       let i = p.start.itself in
-      record {
-        period = p;
-        lender = written.lender ∙ i.lender;
-        memory = written.memory ∙ ap (λ (k : ℕ). behind k frames p.begun.memory.now) i.used ∙ ap (behind 0 frames) i.memory;
-      }
+      record { period = p; lender = w.lender ∙ i.lender; memory = cc }

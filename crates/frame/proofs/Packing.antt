@@ -1,5 +1,6 @@
 -- The broadcasts of a period lie one behind the other.
-use Rattle.std.proofs.Common.{◌≡◌, ℕ, ◌+◌, ◌≤◌, Bool, true, false, cond, ◌&&◌, List, [], ◌∷◌, ◌++◌, length, sym, refl, ap, ◌∙◌, arith, le-leb, leb-true}
+use Rattle.std.proofs.Common.{◌≡◌, ℕ, ◌+◌, ◌≤◌, Bool, true, false, cond, ◌&&◌, List, [], ◌∷◌, ◌++◌, length, sym, refl, ap, ◌∙◌, arith}
+use Rattle.std.proofs.lemmas.Bool.Decides.{nat_tests}
 use Rattle.site.specs.Events.{Event, Chain}
 use Rattle.site.specs.Events.Event.{switched, started, offered}
 use Rattle.frame.specs.declared.frame_site.FrameSite.{FrameSite}
@@ -10,36 +11,22 @@ use Rattle.frame.proofs.Puts.{put_none, put_more, put_length}
 
 -- no octets
 behind_none : (used : ℕ) (memory : List ℕ) → behind used [] memory ≡ memory
-behind_none used memory = go (large (length memory))
-  where
-    go : (x : Bool) → cond x (put used [] memory) memory ≡ memory
-    go true = put_none used memory
-    go false = refl
+behind_none used memory = let e = put_none used memory in grind (arith, e)
 
 -- where the longest broadcast fits, only the size of the memory decides
 large_alone : {A : Type 0} (x : Bool) (used : ℕ) (p q : A) → used ≤ 19830 → cond (x && fits used) p q ≡ cond x p q
-large_alone true used p q le = ap (λ (b : Bool). cond b p q) (le-leb used 19830 le)
-large_alone false used p q le = refl
+large_alone x used p q le = grind (arith, nat_tests)
 
 -- octets, and octets behind them
 behind_more : (used next : ℕ) (a b memory : List ℕ) → next ≤ 21152 → next ≡ cond (large (length memory)) (used + length a) used → behind next b (behind used a memory) ≡ behind used (a ++ b) memory
-behind_more used next a b memory le e = go (large (length memory)) refl
-  where
-    go : (x : Bool) → large (length memory) ≡ x → behind next b (cond x (put used a memory) memory) ≡ cond x (put used (a ++ b) memory) memory
-    go false f = ap (λ (y : Bool). cond y (put next b memory) memory) f
-    go true t =
-        let n : next ≡ used + length a = e ∙ ap (λ (y : Bool). cond y (used + length a) used) t in
-        let all : 21152 ≤ length memory = leb-true 21152 (length memory) t in
-        let long : length (put used a memory) ≡ length memory = put_length used a memory (omega arith) in
-        let still : large (length (put used a memory)) ≡ true = ap large long ∙ t in
-        ap (λ (y : Bool). cond y (put next b (put used a memory)) (put used a memory)) still ∙ put_more used next a b memory n (omega arith)
+behind_more used next a b memory le e =
+    let more = put_more used next a b memory in
+    let long = put_length used a memory in
+    grind (arith, nat_tests, more, long)
 
 -- a call that writes nothing and takes no room
 unmoved : (s u t : FrameSite) (es ds : List Event) → u.memory.ghost_name ≡ s.memory.ghost_name → u.used ≡ s.used → u.memory.now ≡ s.memory.now → frames_of ds ≡ frames_of es → Written u es t → Written s ds t
-unmoved s u t es ds n e m f w = record {
-  lender = w.lender ∙ n;
-  memory = w.memory ∙ ap (λ (k : ℕ). behind k (frames_of es) u.memory.now) e ∙ ap (behind s.used (frames_of es)) m ∙ ap (λ (xs : List ℕ). behind s.used xs s.memory.now) (sym f);
-}
+unmoved s u t es ds n e m f w = record { lender = w.lender ∙ n; memory = (let k = w.memory in cc) }
 
 pub packs : Packs
 unfolding WithinPeriod frames_of Chain
@@ -66,7 +53,5 @@ packs s t (offered k d m true ∷ es) h p c =
     let octets = record_octets k d m in
     let next = i.used ∙ large_alone (large (length memory)) s.used (s.used + length octets) s.used place in
     let here = i.memory ∙ large_alone (large (length memory)) s.used (put s.used octets memory) memory place in
-    record {
-      lender = w.lender ∙ i.lender;
-      memory = w.memory ∙ ap (behind u.used (frames_of es)) here ∙ behind_more s.used u.used octets (frames_of es) memory (omega arith) next;
-    }
+    let all = behind_more s.used u.used octets (frames_of es) memory (omega arith) next in
+    record { lender = w.lender ∙ i.lender; memory = cc }

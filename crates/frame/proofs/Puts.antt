@@ -1,63 +1,71 @@
 -- Octets written one behind the other, and pages one by one.
-use Rattle.std.proofs.Common.{◌≡◌, ℕ, ◌+◌, ◌*◌, ◌<◌, ◌≤◌, List, [], ◌∷◌, ◌++◌, length, get_or, take, drop, sym, refl, ap, ◌∙◌, append_assoc, add-zero, add_assoc, arith}
+use Rattle.std.proofs.Common.{◌≡◌, ℕ, ◌+◌, ◌-◌, ◌*◌, ◌<◌, ◌≤◌, cond, ◌&&◌, le-leb, List, [], ◌∷◌, ◌++◌, length, get_or, take, drop, sym, refl, append_assoc, add-zero, add_assoc, arith}
 use borrow.Rule.Slice.PartMut.{put_mid}
-use Rattle.std.proofs.lemmas.List.{length-append, length-take-le, length-drop, take_at, drop_at, drop-drop, append-nil, take-append-drop, take_more}
+use Rattle.std.proofs.lemmas.Grind.{common_steps}
+use Rattle.std.proofs.lemmas.List.{length-append, length-take, length-take-le, length-drop, take_all, take_at, drop_at, drop-drop, append-nil, take-append-drop, take_more}
 use Rattle.site.specs.declared.message.Page.{Page}
 use Rattle.site.specs.Messages.{Aired}
 use Rattle.site.specs.Pages.{page_octets}
 use Rattle.frame.specs.Record.{put, pages_from}
+use Rattle.frame.specs.Frame.{large, fits}
 
--- a part of the memory that was written
-pub put_part : (at k : ℕ) (octets ys memory : List ℕ) → ys ≡ octets → k ≡ length octets → put_mid at k memory ys ≡ put at octets memory
-put_part at k octets ys memory e f = rw (e, f, drop-drop (length octets) at memory) refl
-
+-- no octets
 pub put_none : (at : ℕ) (memory : List ℕ) → put at [] memory ≡ memory
 put_none at memory = rw (add-zero at) (take-append-drop at memory)
 
-module _ (at n : ℕ) (a b memory : List ℕ) (e : n ≡ at + length a) (le : n ≤ length memory) where
-  front : List ℕ
-  front = take at memory ++ a
-
-  long : length (take at memory ++ a) ≡ n
-  long = length-append (take at memory) a ∙ (let h = length-take-le at memory (omega arith) in omega arith)
-
-  -- octets behind octets
-  pub put_more : put n b (put at a memory) ≡ put at (a ++ b) memory
-  put_more =
-      let p = take at memory in
-      let q = drop (at + length a) memory in
-      let whole : p ++ (a ++ q) ≡ (p ++ a) ++ q = sym (append_assoc p a q) in
-      let ahead : take n (p ++ (a ++ q)) ≡ p ++ a = ap (take n) whole ∙ take_at (p ++ a) q n long in
-      let behind : drop n (p ++ (a ++ q)) ≡ q = ap (drop n) whole ∙ drop_at (p ++ a) q n long in
-      let far : (at + length a) + length b ≡ at + length (a ++ b) = rw (length-append a b) (add_assoc at (length a) (length b)) in
-      let rest : drop (n + length b) (p ++ (a ++ q)) ≡ drop (at + length (a ++ b)) memory =
-      sym (drop-drop (length b) n (p ++ (a ++ q))) ∙ ap (drop (length b)) behind ∙ drop-drop (length b) (at + length a) memory ∙ ap (λ (k : ℕ). drop k memory) far
-      in
-      rw (ahead, rest) (append_assoc p a (b ++ drop (at + length (a ++ b)) memory) ∙ ap (λ (xs : List ℕ). p ++ xs) (sym (append_assoc a b (drop (at + length (a ++ b)) memory))))
+-- octets behind octets
+pub put_more : (at n : ℕ) (a b memory : List ℕ) → n ≡ at + length a → n ≤ length memory → put n b (put at a memory) ≡ put at (a ++ b) memory
+put_more at n a b memory e le =
+    let p = take at memory in
+    let q = drop (at + length a) memory in
+    let front : length (p ++ a) ≡ n = omega (arith, length-append {A = ℕ}, length-take {A = ℕ}) in
+    let ahead : take n (p ++ (a ++ q)) ≡ p ++ a = rw (← append_assoc p a q) (take_at (p ++ a) q n front) in
+    let rest : drop (n + length b) (p ++ (a ++ q)) ≡ drop (at + length (a ++ b)) memory =
+    rw (← append_assoc p a q, ← drop-drop (length b) n, drop_at (p ++ a) q n front, drop-drop (length b), length-append a b, add_assoc at (length a) (length b)) refl in
+    rw (ahead, rest) (simp append_assoc)
 
 -- a write within the memory keeps its length
 pub put_length : (at : ℕ) (octets memory : List ℕ) → at + length octets ≤ length memory → length (put at octets memory) ≡ length memory
-put_length at octets memory le =
-    let p = length-take-le at memory (omega arith) in
-    let q = length-drop (at + length octets) memory in
-    rw (length-append (take at memory) (octets ++ drop (at + length octets) memory), length-append octets (drop (at + length octets) memory)) (omega arith)
+put_length at octets memory le = omega (arith, length-append {A = ℕ}, length-drop {A = ℕ}, length-take {A = ℕ})
+
+-- what is free, as a part of the memory
+abbrev pub free : ℕ → List ℕ → List ℕ
+free used memory = take (length memory - used) (drop used memory)
+
+-- octets at its front
+put_free : (used : ℕ) (octets memory : List ℕ) → put_mid used (length memory - used) memory (put 0 octets (free used memory)) ≡ put used octets memory
+put_free used octets memory =
+    let all = take_all (length memory - used) (drop used memory) in
+    grind (arith, common_steps, all, drop-drop {A = ℕ}, append-nil {A = ℕ})
+
+-- the memory after a broadcast was written there
+pub written_free : (used : ℕ) (octets memory space : List ℕ) → space ≡ put 0 octets (free used memory) → 21152 ≤ length memory → used ≤ 19830 → put_mid used (length memory - used) memory space ≡ cond (large (length memory) && fits used) (put used octets memory) memory
+written_free used octets memory space e le fit = rw (e, le-leb 21152 (length memory) le, le-leb used 19830 fit) (put_free used octets memory)
 
 -- one page more
-pub pages_more : (m : Aired) (n : ℕ) (ps : List Page) (p : Page) → pages_from m n (ps ++ p ∷ []) ≡ pages_from m n ps ++ page_octets m (n + length ps) p
+pages_more : (m : Aired) (n : ℕ) (ps : List Page) (p : Page) → pages_from m n (ps ++ p ∷ []) ≡ pages_from m n ps ++ page_octets m (n + length ps) p
 unfolding pages_from
 pages_more m n [] p = rw (append-nil (page_octets m n p), add-zero n) refl
 pages_more m n (q ∷ ps) p =
     let far : (n + 1) + length ps ≡ n + length (q ∷ ps) = omega arith in
     rw (pages_more m (n + 1) ps p, far) (sym (append_assoc (page_octets m n q) (pages_from m (n + 1) ps) (page_octets m (n + length (q ∷ ps)) p)))
 
--- page i was written behind those before it
-pub page_written : (at i : ℕ) (m : Aired) (d : Page) (old memory new : List ℕ) → i < length m.pages → (at + 88 * i) + 88 ≤ length old → length (page_octets m (i + 1) (get_or m.pages i d)) ≡ 88 → new ≡ put (at + 88 * i) (page_octets m (i + 1) (get_or m.pages i d)) memory → (length (pages_from m 1 (take i m.pages)) ≡ 88 * i) × (memory ≡ put at (pages_from m 1 (take i m.pages)) old) → (length (pages_from m 1 (take (i + 1) m.pages)) ≡ 88 * (i + 1)) × (new ≡ put at (pages_from m 1 (take (i + 1) m.pages)) old)
-page_written at i m d old memory new lt fit long w inv =
-    let xs = pages_from m 1 (take i m.pages) in
-    let p = get_or m.pages i d in
-    let number : 1 + length (take i m.pages) ≡ i + 1 = (let h = length-take-le i m.pages (omega arith) in omega arith) in
-    let grown : pages_from m 1 (take (i + 1) m.pages) ≡ xs ++ page_octets m (i + 1) p =
-    ap (pages_from m 1) (take_more m.pages i d lt) ∙ pages_more m 1 (take i m.pages) p ∙ ap (λ (k : ℕ). xs ++ page_octets m k p) number
-    in
-    let here : at + 88 * i ≡ at + length xs = ap (λ (k : ℕ). at + k) (sym inv.0) in
-    rw grown (length-append xs (page_octets m (i + 1) p) ∙ (let h = inv.0 in omega arith), w ∙ ap (put (at + 88 * i) (page_octets m (i + 1) p)) inv.1 ∙ put_more at (at + 88 * i) xs (page_octets m (i + 1) p) old here (omega arith))
+-- pages that were written at the front, one behind the other, as far as an index
+pub record PagesWritten (m : Aired) (ps : List Page) (i : ℕ) (old new : List ℕ) : Type 0 where
+  pub size : length (pages_from m 1 (take i ps)) ≡ 88 * i
+  pub written : new ≡ put 0 (pages_from m 1 (take i ps)) old
+
+-- no page
+pub no_page_written : (m : Aired) (ps : List Page) (space : List ℕ) → PagesWritten m ps 0 space space
+unfolding pages_from
+no_page_written m ps space = record { size = refl; written = sym (put_none 0 space) }
+
+-- and the page at that index behind them
+pub page_written : (i : ℕ) (m : Aired) (ps : List Page) (d : Page) (old space new : List ℕ) → i < length ps → 88 * i + 88 ≤ length old → length (page_octets m (i + 1) (get_or ps i d)) ≡ 88 → new ≡ put (88 * i) (page_octets m (i + 1) (get_or ps i d)) space → PagesWritten m ps i old space → PagesWritten m ps (i + 1) old new
+page_written i m ps d old space new lt fit whole w before =
+    let xs = pages_from m 1 (take i ps) in
+    let p = page_octets m (i + 1) (get_or ps i d) in
+    let number : 1 + length (take i ps) ≡ i + 1 = (let h = length-take-le i ps (omega arith) in omega arith) in
+    let grown : pages_from m 1 (take (i + 1) ps) ≡ xs ++ p = rw (take_more ps i d lt, pages_more m 1 (take i ps) (get_or ps i d), number) refl in
+    let more = put_more 0 (88 * i) xs p old (omega (arith, before.size)) (omega arith) in
+    record { size = rw grown (omega (arith, length-append xs p, before.size)); written = rw grown (let e = before.written in cc) }

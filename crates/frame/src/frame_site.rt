@@ -17,10 +17,11 @@ pub const CAPACITY: u16 = 16;
 pub const MEMORY: usize = 16 * LONGEST;
 
 // Room that all cells share, and memory of which the first octets are used in the period.
-#[derive(Drop)]
+#[derive(Debug, Drop)]
 pub struct FrameSite<'a> {
     cells: CellStates,
     left: u16,
+    // beside the memory, which stays whole: each period begins at its front again
     used: usize,
     memory: &'a mut [u8],
 }
@@ -51,6 +52,8 @@ impl<'a> FrameSite<'a> {
     }
 }
 
+// is_open, count, close and open are one line each, as the drill site's: a trait's methods are not inherited
+// from a field.
 impl Site for FrameSite<'_> {
     ghost model = { frame_model };
 
@@ -66,6 +69,7 @@ impl Site for FrameSite<'_> {
         self.cells.is_open(cell)
     }
 
+    // 0 past the cells: there is no room.
     fn room(&self, cell: usize) -> u16 {
         if cell < CELLS { self.left } else { 0 }
     }
@@ -92,9 +96,8 @@ impl Site for FrameSite<'_> {
             return false;
         }
         self.left -= 1;
-        let at = self.used;
-        if self.memory.len() >= MEMORY && at <= MEMORY - LONGEST {
-            self.used = at + write_record(self.memory, at, cell as u8, channel, message);
+        if self.memory.len() >= MEMORY && self.used <= MEMORY - LONGEST {
+            self.used += write_record(&mut self.memory[self.used..], cell as u8, channel, message);
         }
         true
     }

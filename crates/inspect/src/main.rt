@@ -11,6 +11,7 @@ mod message_lines;
 mod recording;
 mod report;
 mod request_lines;
+mod subject;
 
 const HELP: &str = "inspect: says what is in a recording of CBSP messages (3GPP TS 48.049)
 
@@ -24,12 +25,8 @@ What cannot be read is said, with its offset from the start.";
 
 // Whether the first word on the command line asks for help.
 fn is_help_wanted(rt: &HostRuntime) -> io::Result<bool> {
-    let mut words = env::args(rt)?;
-    let _program = words.next();
-    match words.next() {
-        Some(word) => Ok(word.as_str() == "--help" || word.as_str() == "-h"),
-        None => Ok(false),
-    }
+    let wanted = env::args(rt)?.nth(1);
+    Ok(wanted.is_some_and(|word| word.as_str() == "--help" || word.as_str() == "-h"))
 }
 
 fn main(rt: HostRuntime) -> io::Result<()> {

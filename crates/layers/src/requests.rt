@@ -1,4 +1,5 @@
-// Each request over a Cell List.
+// Each request over a Cell List. Each test begins alike and lists its calls in full, so that it can be read
+// alone.
 use crate::tools::{by_ci, key_of, two_cells, write_of};
 use cbsp::channel::Channel;
 use cells::list::CellList;

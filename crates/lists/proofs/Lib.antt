@@ -1,12 +1,10 @@
 pub mod Puts
-pub mod Small
 pub mod Steps
 pub mod From
-pub mod Slices
 pub mod Forth
 pub mod Back
 pub mod ListLaws
 pub mod CellLaws
 pub mod PartLaws
-pub mod Widths
 pub mod Named
+pub mod Widths

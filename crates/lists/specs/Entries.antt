@@ -1,10 +1,11 @@
 -- List elements: what an entry of each kind is in octets, and how entries are read.
-use Rattle.std.specs.Prelude.{◌≡◌, ℕ, zero, suc, ◌+◌, Bool, true, false, cond, ◌&&◌, List, [], ◌∷◌, ◌++◌, length, take, drop, Some, None, Ok, Err, Option, Result, ◌==◌, nat_le, nat_lt, slice_index}
+use Rattle.std.specs.Prelude.{◌≡◌, ℕ, zero, suc, ◌+◌, ◌≤◌, Bool, true, false, cond, ◌&&◌, List, [], ◌∷◌, ◌++◌, length, take, drop, Some, None, Ok, Err, Option, Result, ◌==◌, nat_le, nat_lt, slice_index}
 use Rattle.std.specs.List.{flat_map}
 use Rattle.elements.specs.declared.faults.EntryFault.{EntryFault}
 use Rattle.elements.specs.Octets.{then}
 use Rattle.lists.specs.declared.cell.CellIdentity.{CellIdentity}
 use Rattle.lists.specs.Cells.{form_of, cell_octets, read_cell}
+use Rattle.lists.specs.Forms.{form_from}
 
 -- an entry: whom it names, and the octets after the identity
 pub record Entry : Type 0 where
@@ -35,6 +36,10 @@ spell_entries k es = flat_map (spell_entry k) es
 abbrev pub form_at : Bool → ℕ → List ℕ → ℕ → ℕ × ℕ
 form_at true h os at = (h, at)
 form_at false h os at = (slice_index os at, at + 1)
+
+-- the same, where that discriminator may stand, and otherwise it is placed at itself
+abbrev pub read_form : Kind → ℕ → List ℕ → ℕ → Result (ℕ × ℕ) EntryFault
+read_form k h os at = cond (k.forms (form_at k.headed h os at).0) (Ok (form_at k.headed h os at)) (Err (record { place = at }))
 
 -- the octets after the identity; an octet out of range is placed at itself
 abbrev pub checked : Option ℕ → Entry → ℕ → ℕ → Result (Entry × ℕ) EntryFault
@@ -88,3 +93,15 @@ entry_fits k h e = formed k.headed h (form_of e.cell) && (k.forms (form_of e.cel
 pub record Sound (k : Kind) (e : Entry) : Type 0 where
   pub width : length e.tail ≡ k.tail
   pub unbroken : unflawed (k.flaw e.tail) ≡ true
+
+-- what the constants of a kind of entry are to it
+pub record Stated (k : Kind) (tail : ℕ) (headed : Bool) (most : ℕ) : Type 0 where
+  pub tail_is : k.tail ≡ tail
+  pub headed_is : k.headed ≡ headed
+  pub most_is : k.most ≡ most
+  pub few_octets : tail ≤ 250
+  pub few_entries : most ≤ 255
+
+-- only the code of a discriminator may stand for one
+abbrev pub Known : Kind → Type 0
+Known k = (o : ℕ) → form_from o ≡ None → k.forms o ≡ false

@@ -1,5 +1,7 @@
 -- The three kinds of list.
 use Rattle.std.specs.Prelude.{◌≡◌, ℕ, true, false, cond, ◌||◌, [], ◌∷◌, ◌++◌, Some, None, Option, ◌==◌, slice_index, refl}
+use Rattle.std.proofs.Common.{arith}
+use Rattle.std.proofs.lemmas.Grind.{common_steps}
 use Rattle.elements.specs.declared.cause.Cause.{Cause}
 use Rattle.elements.specs.declared.cause.Cause.TheVariants as cause
 use Rattle.elements.specs.Codes.{cause_code, cause_of}
@@ -9,7 +11,7 @@ use Rattle.lists.specs.declared.kinds.CompletedEntry.{CompletedEntry}
 use Rattle.lists.specs.declared.kinds.FailedEntry.{FailedEntry}
 use Rattle.lists.specs.declared.kinds.Info.{Info}
 use Rattle.lists.specs.declared.kinds.Info.TheVariants.{Exact, Overflow, Unknown}
-use Rattle.lists.specs.Entries.{Entry, Kind, Sound, unflawed}
+use Rattle.lists.specs.Entries.{Entry, Kind, Known, Sound, unflawed}
 
 -- Cell List: nothing after the identity
 abbrev pub cell_kind : Kind
@@ -83,3 +85,13 @@ cause_known cause.LaiOrLacNotValid = refl
 
 pub failed_sound : (e : FailedEntry) → Sound failed_kind (failed_meant e)
 failed_sound e = record { width = refl; unbroken = cause_known e.cause }
+
+-- in each of the three only discriminators may stand
+pub cell_known : Known cell_kind
+cell_known o e = grind (arith, common_steps)
+
+pub completed_known : Known completed_kind
+completed_known o e = grind (arith, common_steps)
+
+pub failed_known : Known failed_kind
+failed_known o e = grind (arith, common_steps)

@@ -1,3 +1,4 @@
+pub mod Forms
 pub mod Cells
 pub mod Entries
 pub mod Kinds
@@ -5,7 +6,6 @@ pub mod Views
 pub mod Listed
 pub mod Laws
 pub mod Lists
-pub mod Spans
 pub mod CellLists
 pub mod Parts
 pub mod Measures

@@ -5,10 +5,11 @@ use Rattle.lists.specs.declared.entries.EntryView.{EntryView}
 use Rattle.lists.specs.declared.entries.Entries.{Entries}
 use Rattle.lists.specs.declared.entries.Entries.TheVariants.{Read, Given}
 use Rattle.lists.specs.Entries.{Entry, Kind}
+use Rattle.lists.specs.Forms.{form_number}
 use Rattle.lists.specs.Views.{entries_from}
 
 abbrev pub viewed : {E : Type 0} → Kind → EntryView E → List Entry
-viewed k v = entries_from k v.broken v.form (length v.octets.now) v.octets.now v.left v.at
+viewed k v = entries_from k v.head.broken (form_number v.head.form) (length v.reader.octets.now) v.reader.octets.now v.left v.reader.at
 
 abbrev pub listed : {E : Type 0} → Kind → (E → Entry) → Entries E → List Entry
 listed k m (Read v) = viewed k v

@@ -1,10 +1,15 @@
 // How an entry of a list names cells.
-ghost use Rattle.std.specs.Prelude.{◌≡◌, ◌+◌, ◌<◌, ◌≤◌, length, IfOk};
-ghost use Rattle.elements.specs.Octets.{Wrote};
+ghost use Rattle.std.specs.Prelude.{◌≡◌, ◌<◌, ◌≤◌, length, IfOk};
+ghost use Rattle.elements.specs.Reads.{Reads};
+ghost use Rattle.elements.specs.Writes.{Room, Writes};
 ghost use Rattle.lists.specs.Cells.{cell_octets, form_of, read_cell};
+ghost use Rattle.lists.specs.Forms.{form_code};
 
+use crate::form::Form;
+use cbsp::octets::two_at;
 use elements::faults::EntryFault;
-use elements::octets::{put_octet, put_two, two_at};
+use elements::reader::Reader;
+use elements::writer::Writer;
 
 // A cell by location area code (LAC) and cell identity (CI), cells by CI, the cells of a location area, or every cell.
 #[derive(Clone, Copy, PartialEq, Eq, Debug)]
@@ -16,61 +21,68 @@ pub enum CellIdentity {
 }
 
 impl CellIdentity {
-    // The discriminator.
-    pub fn form(self) -> u8
-        ensures { result ≡ form_of self }
+    pub fn form(self) -> Form
+        ensures { form_code result ≡ form_of self }
     {
         match self {
-            CellIdentity::LacCi(_, _) => 1,
+            CellIdentity::LacCi(_, _) => Form::LacCi,
+            CellIdentity::Ci(_) => Form::Ci,
+            CellIdentity::Lac(_) => Form::Lac,
+            CellIdentity::All => Form::All,
+        }
+    }
+
+    // How many octets stand for it.
+    pub fn width(self) -> usize
+        ensures value { result ≡ length (cell_octets self) }
+        ensures small { result ≤ 4 }
+    {
+        match self {
+            CellIdentity::LacCi(_, _) => 4,
             CellIdentity::Ci(_) => 2,
-            CellIdentity::Lac(_) => 5,
-            CellIdentity::All => 6,
+            CellIdentity::Lac(_) => 2,
+            CellIdentity::All => 1,
         }
     }
-}
 
-// The identity at a place, which may not pass `end`, and the place after it; `broken` where it does.
-pub fn read_cell(
-    octets: &[u8],
-    at: usize,
-    form: u8,
-    end: usize,
-    broken: EntryFault,
-) -> Result<(CellIdentity, usize), EntryFault>
-    requires { (at ≤ end) × (end ≤ length octets.now) }
-    ensures value { result ≡ read_cell broken form end octets.now at }
-    ensures bound { IfOk result (λ p. (at < p.1) × (p.1 ≤ end)) }
-{
-    let left = end - at;
-    match form {
-        1 if left >= 4 => Ok((
-            CellIdentity::LacCi(two_at(octets, at), two_at(octets, at + 2)),
-            at + 4,
-        )),
-        2 if left >= 2 => Ok((CellIdentity::Ci(two_at(octets, at)), at + 2)),
-        5 if left >= 2 => Ok((CellIdentity::Lac(two_at(octets, at)), at + 2)),
-        6 if left >= 1 => {
-            if octets[at] == 0 {
-                Ok((CellIdentity::All, at + 1))
-            } else {
-                Err(EntryFault { place: at })
+    pub fn put(self, writer: &mut Writer<'_>)
+        requires { Room (cell_octets self) writer.old }
+        ensures { Writes (cell_octets self) writer.old writer.new }
+    {
+        match self {
+            CellIdentity::LacCi(lac, ci) => {
+                writer.put_two(lac);
+                writer.put_two(ci);
             }
+            CellIdentity::Ci(ci) => writer.put_two(ci),
+            CellIdentity::Lac(lac) => writer.put_two(lac),
+            CellIdentity::All => writer.put_octet(0),
         }
-        _ => Err(broken),
     }
 }
 
-pub fn put_cell(out: &mut [u8], at: usize, cell: CellIdentity) -> usize
-    requires { at + length (cell_octets cell) ≤ length out.old }
-    ensures { Wrote (cell_octets cell) at out.old out.new result }
+// The identity at the reader's place; `broken` where the octets end before it does. How much is left is asked
+// before: then each arm says its octets by their places.
+pub fn read_cell(
+    reader: &mut Reader<'_>,
+    form: Form,
+    broken: EntryFault,
+) -> Result<CellIdentity, EntryFault>
+    requires { reader.old.at ≤ length reader.old.octets.now }
+    ensures value { Reads (λ c. c) reader.old result reader.new (read_cell broken (form_code form) (length reader.old.octets.now) reader.old.octets.now reader.old.at) }
+    ensures bound { IfOk result (λ _. (reader.old.at < reader.new.at) × (reader.new.at ≤ length reader.old.octets.now)) }
 {
-    match cell {
-        CellIdentity::LacCi(lac, ci) => {
-            let next = put_two(out, at, lac);
-            put_two(out, next, ci)
-        }
-        CellIdentity::Ci(ci) => put_two(out, at, ci),
-        CellIdentity::Lac(lac) => put_two(out, at, lac),
-        CellIdentity::All => put_octet(out, at, 0),
-    }
+    let at = reader.at;
+    let octets = reader.octets;
+    let left = reader.left();
+    let cell = match form {
+        Form::LacCi if left >= 4 => CellIdentity::LacCi(two_at(octets, at), two_at(octets, at + 2)),
+        Form::Ci if left >= 2 => CellIdentity::Ci(two_at(octets, at)),
+        Form::Lac if left >= 2 => CellIdentity::Lac(two_at(octets, at)),
+        Form::All if left >= 1 && octets[at] == 0 => CellIdentity::All,
+        Form::All if left >= 1 => return Err(EntryFault { place: at }),
+        _ => return Err(broken),
+    };
+    reader.at += cell.width();
+    Ok(cell)
 }

@@ -2,6 +2,7 @@
 use crate::entries::Entries;
 use crate::kinds::CellEntry;
 
+// No Option: without entries it names all cells, and May<CellList> makes an Option of it.
 #[derive(Clone, Copy)]
 pub enum Cells<'a> {
     All,

@@ -1,11 +1,18 @@
-// The three kinds of list entries.
-ghost use Rattle.std.specs.Prelude.{◌≡◌};
-ghost use Rattle.lists.specs.Kinds.{cell_kind, cell_meant, cell_sound, completed_kind, completed_meant, completed_sound, failed_kind, failed_meant, failed_sound, info_code, info_of};
+// The three kinds of list entries. Three structs, no generic one: the fields behind the identity have names,
+// and differ.
+ghost use Rattle.std.specs.Prelude.{◌≡◌, true, false};
+ghost use Rattle.std.proofs.Common.{rules};
+ghost use Rattle.cbsp.specs.Decoding.{decoded};
+ghost use Rattle.lists.specs.Kinds.{cell_kind, cell_known, cell_meant, cell_sound, completed_kind, completed_known, completed_meant, completed_sound, failed_kind, failed_known, failed_meant, failed_sound, info_code, info_of};
 
 use crate::cell::CellIdentity;
-use crate::entry::ListEntry;
+use crate::entry::{Flaw, ListEntry};
+use crate::form::Form;
+use cbsp::code::UnknownCode;
+use cbsp::limits::{MOST_NAMED, MOST_TOLD};
+use cbsp::octets::two_at;
 use elements::cause::Cause;
-use elements::octets::{put_octet, put_two, two_at};
+use elements::writer::Writer;
 
 // An entry of a Cell List.
 #[derive(Clone, Copy, PartialEq, Eq, Debug)]
@@ -18,31 +25,29 @@ impl ListEntry for CellEntry {
 
     const HEADED: bool = true;
 
-    const MOST: usize = 128;
+    const MOST: usize = MOST_NAMED;
+
+    ghost TAIL = { 0 };
+
+    ghost HEADED = { true };
+
+    ghost MOST = { 128 };
 
     ghost kind = { cell_kind };
 
     ghost meant = { cell_meant };
 
+    ghost stated = { Prim.search rules };
+
     ghost sound = { cell_sound };
 
-    fn tail_width() -> usize {
-        Self::TAIL
+    ghost known = { cell_known };
+
+    fn takes(form: Form) -> bool {
+        matches!(form, Form::LacCi | Form::Ci | Form::Lac)
     }
 
-    fn has_heading() -> bool {
-        Self::HEADED
-    }
-
-    fn capacity() -> usize {
-        Self::MOST
-    }
-
-    fn takes(form: u8) -> bool {
-        form == 1 || form == 2 || form == 5
-    }
-
-    fn make(cell: CellIdentity, _tail: &[u8]) -> Result<Self, usize> {
+    fn make(cell: CellIdentity, _tail: &[u8]) -> Result<Self, Flaw> {
         Ok(CellEntry { cell })
     }
 
@@ -50,38 +55,36 @@ impl ListEntry for CellEntry {
         self.cell
     }
 
-    fn put_tail(&self, _out: &mut [u8], at: usize) -> usize {
-        at
-    }
+    fn put_tail(&self, _writer: &mut Writer<'_>) {}
 }
 
 // What a count of broadcasts is worth.
 #[derive(Clone, Copy, PartialEq, Eq, Debug)]
 pub enum Info {
-    Exact,
-    Overflow,
-    Unknown,
+    Exact = 0,
+    Overflow = 1,
+    Unknown = 2,
 }
 
-impl Info {
-    pub fn code(self) -> u8
-        ensures { result ≡ info_code self }
-    {
-        match self {
-            Info::Exact => 0,
-            Info::Overflow => 1,
-            Info::Unknown => 2,
-        }
-    }
+impl From<Info> for u8 {
+    ghost from_gives = { λ v r. r ≡ info_code v };
 
-    pub fn from_code(code: u8) -> Option<Info>
-        ensures { result ≡ info_of code }
-    {
+    fn from(info: Info) -> u8 {
+        info as u8
+    }
+}
+
+impl TryFrom<u8> for Info {
+    type Error = UnknownCode;
+
+    ghost try_from_gives = { λ o r. r ≡ decoded info_of o };
+
+    fn try_from(code: u8) -> Result<Info, UnknownCode> {
         match code {
-            0 => Some(Info::Exact),
-            1 => Some(Info::Overflow),
-            2 => Some(Info::Unknown),
-            _ => None,
+            0 => Ok(Info::Exact),
+            1 => Ok(Info::Overflow),
+            2 => Ok(Info::Unknown),
+            _ => Err(UnknownCode(code)),
         }
     }
 }
@@ -99,45 +102,43 @@ impl ListEntry for CompletedEntry {
 
     const HEADED: bool = true;
 
-    const MOST: usize = 192;
+    const MOST: usize = MOST_TOLD;
+
+    ghost TAIL = { 3 };
+
+    ghost HEADED = { true };
+
+    ghost MOST = { 192 };
 
     ghost kind = { completed_kind };
 
     ghost meant = { completed_meant };
 
+    ghost stated = { Prim.search rules };
+
     ghost sound = { completed_sound };
 
-    fn tail_width() -> usize {
-        Self::TAIL
+    ghost known = { completed_known };
+
+    fn takes(form: Form) -> bool {
+        matches!(form, Form::LacCi | Form::Ci)
     }
 
-    fn has_heading() -> bool {
-        Self::HEADED
-    }
-
-    fn capacity() -> usize {
-        Self::MOST
-    }
-
-    fn takes(form: u8) -> bool {
-        form == 1 || form == 2
-    }
-
-    fn make(cell: CellIdentity, tail: &[u8]) -> Result<Self, usize> {
+    fn make(cell: CellIdentity, tail: &[u8]) -> Result<Self, Flaw> {
+        let Ok(info) = Info::try_from(tail[2]) else {
+            return Err(Flaw { index: 2 });
+        };
         let count = two_at(tail, 0);
-        match Info::from_code(tail[2]) {
-            Some(info) => Ok(CompletedEntry { cell, count, info }),
-            None => Err(2),
-        }
+        Ok(CompletedEntry { cell, count, info })
     }
 
     fn identity(&self) -> CellIdentity {
         self.cell
     }
 
-    fn put_tail(&self, out: &mut [u8], at: usize) -> usize {
-        let next = put_two(out, at, self.count);
-        put_octet(out, next, self.info.code())
+    fn put_tail(&self, writer: &mut Writer<'_>) {
+        writer.put_two(self.count);
+        writer.put_octet(u8::from(self.info));
     }
 }
 
@@ -153,42 +154,42 @@ impl ListEntry for FailedEntry {
 
     const HEADED: bool = false;
 
-    const MOST: usize = 192;
+    const MOST: usize = MOST_TOLD;
+
+    ghost TAIL = { 1 };
+
+    ghost HEADED = { false };
+
+    ghost MOST = { 192 };
 
     ghost kind = { failed_kind };
 
     ghost meant = { failed_meant };
 
+    ghost stated = { Prim.search rules };
+
     ghost sound = { failed_sound };
 
-    fn tail_width() -> usize {
-        Self::TAIL
-    }
+    ghost known = { failed_known };
 
-    fn has_heading() -> bool {
-        Self::HEADED
-    }
-
-    fn capacity() -> usize {
-        Self::MOST
-    }
-
-    fn takes(form: u8) -> bool {
-        form == 1 || form == 2 || form == 5 || form == 6
-    }
-
-    fn make(cell: CellIdentity, tail: &[u8]) -> Result<Self, usize> {
-        match Cause::from_code(tail[0]) {
-            Some(cause) => Ok(FailedEntry { cell, cause }),
-            None => Err(0),
+    fn takes(form: Form) -> bool {
+        match form {
+            Form::LacCi | Form::Ci | Form::Lac | Form::All => true,
         }
+    }
+
+    fn make(cell: CellIdentity, tail: &[u8]) -> Result<Self, Flaw> {
+        let Ok(cause) = Cause::try_from(tail[0]) else {
+            return Err(Flaw { index: 0 });
+        };
+        Ok(FailedEntry { cell, cause })
     }
 
     fn identity(&self) -> CellIdentity {
         self.cell
     }
 
-    fn put_tail(&self, out: &mut [u8], at: usize) -> usize {
-        put_octet(out, at, self.cause.code())
+    fn put_tail(&self, writer: &mut Writer<'_>) {
+        writer.put_octet(u8::from(self.cause));
     }
 }

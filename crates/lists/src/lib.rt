@@ -5,6 +5,7 @@ pub mod cell;
 pub mod cells;
 pub mod entries;
 pub mod entry;
+pub mod form;
 pub mod iterate;
 pub mod kinds;
 pub mod laws;

@@ -1,100 +1,102 @@
-// The three list elements, each mandatory or optional.
-ghost use Rattle.std.specs.Prelude.{◌≡◌, ◌+◌, ◌<◌, ◌≤◌, length};
-ghost use Rattle.elements.specs.Octets.{Got, mapped};
-ghost use Rattle.elements.specs.Codec.{element, optional};
-ghost use Rattle.lists.specs.Kinds.{completed_kind, completed_meant, failed_kind, failed_meant};
+// The list elements. They hand on to functions that ask less: these also measure lists too long for a message,
+// and write entries that are out of range.
+ghost use Rattle.std.specs.Prelude.{List};
+ghost use Rattle.lists.specs.CellLists.{CellsV, cell_list, cells_meant};
+ghost use Rattle.lists.specs.Entries.{Entry};
 ghost use Rattle.lists.specs.Listed.{listed};
 ghost use Rattle.lists.specs.Lists.{entry_list};
-ghost use Rattle.lists.specs.CellLists.{cell_list, cells_meant, read_cells};
 
 use crate::cells::Cells;
 use crate::entries::Entries;
+use crate::entry::ListEntry;
+use crate::form::Form;
 use crate::kinds::{CellEntry, CompletedEntry, FailedEntry};
+use crate::measuring::{cells_width, list_width};
 use crate::reading::{end_of, read_list};
-use elements::faults::{ElementFault, Fault, missing};
-use elements::finding::find;
+use crate::writing::{put_cells, put_list};
+use elements::element::{Element, Identified};
+use elements::elements::limit;
+use elements::faults::ElementFault;
+use elements::reader::Reader;
+use elements::writer::Writer;
+use std::marker::PhantomData;
 
-pub const CELL_LIST: u8 = 0x04;
+// A list of entries of one kind.
+pub struct EntryList<const ID: u8, E>(PhantomData<E>);
 
-pub const COMPLETED_LIST: u8 = 0x08;
+// The Number of Broadcasts Completed List.
+pub type CompletedList = EntryList<0x08, CompletedEntry>;
 
-pub const FAILURE_LIST: u8 = 0x09;
+pub type FailureList = EntryList<0x09, FailedEntry>;
 
-fn read_cells<'a>(
-    octets: &'a [u8],
-    at: usize,
-    body: usize,
-) -> Result<(Cells<'a>, usize), ElementFault>
-    requires { body ≤ length octets.now }
-    ensures { Got cells_meant result (read_cells octets.now at body) }
-{
-    let end = end_of(octets, at, body)?;
-    if body + 2 < end && octets[body + 2] == 6 {
-        return if body + 3 == end {
-            Ok((Cells::All, end))
-        } else {
-            Err(ElementFault::OutOfRange(body))
-        };
+impl<const ID: u8, E> Identified for EntryList<ID, E> {
+    const ID: u8 = ID;
+
+    ghost ID = { ID };
+}
+
+impl<'a, const ID: u8, E: ListEntry + Copy + 'a> Element<'a> for EntryList<ID, E> {
+    type Value = Entries<'a, E>;
+
+    ghost Meaning = { List Entry };
+
+    ghost meant = { listed E.ListEntry.kind E.ListEntry.meant };
+
+    ghost body = { entry_list E.ListEntry.kind };
+
+    fn read(reader: &mut Reader<'a>, start: usize) -> Result<Entries<'a, E>, ElementFault> {
+        read_list(reader, start)
     }
-    let (entries, end) = read_list::<CellEntry>(octets, at, body)?;
-    Ok((Cells::Named(entries), end))
+
+    fn width(entries: Entries<'a, E>) -> Option<usize> {
+        limit(2 + list_width(entries)?)
+    }
+
+    fn put(writer: &mut Writer<'_>, entries: Entries<'a, E>) {
+        put_list(writer, entries);
+    }
 }
 
-pub fn cell_list<'a>(octets: &'a [u8], at: usize) -> Result<(Cells<'a>, usize), Fault>
-    ensures { Got cells_meant result ((element 4 cell_list).read octets.now at) }
-{
-    let Some(body) = find(octets, at, CELL_LIST)? else {
-        return Err(missing(at));
-    };
-    Ok(read_cells(octets, at, body)?)
+// The Cell List: all cells, which has no entries, or those of its entries. Not a kind of entry: a list of all
+// cells has a discriminator and no entry, and is measured and read without one.
+pub struct CellList;
+
+type NamedCells = EntryList<0x04, CellEntry>;
+
+impl Identified for CellList {
+    const ID: u8 = 0x04;
+
+    ghost ID = { 4 };
 }
 
-pub fn optional_cell_list<'a>(
-    octets: &'a [u8],
-    at: usize,
-) -> Result<(Option<Cells<'a>>, usize), Fault>
-    ensures { Got (mapped cells_meant) result ((optional 4 cell_list).read octets.now at) }
-{
-    let Some(body) = find(octets, at, CELL_LIST)? else {
-        return Ok((None, at));
-    };
-    let (cells, next) = read_cells(octets, at, body)?;
-    Ok((Some(cells), next))
-}
+impl<'a> Element<'a> for CellList {
+    type Value = Cells<'a>;
 
-pub fn failure_list<'a>(
-    octets: &'a [u8],
-    at: usize,
-) -> Result<(Entries<'a, FailedEntry>, usize), Fault>
-    ensures { Got (listed failed_kind failed_meant) result ((element 9 (entry_list failed_kind)).read octets.now at) }
-{
-    let Some(body) = find(octets, at, FAILURE_LIST)? else {
-        return Err(missing(at));
-    };
-    Ok(read_list::<FailedEntry>(octets, at, body)?)
-}
+    ghost Meaning = { CellsV };
 
-pub fn completed_list<'a>(
-    octets: &'a [u8],
-    at: usize,
-) -> Result<(Entries<'a, CompletedEntry>, usize), Fault>
-    ensures { Got (listed completed_kind completed_meant) result ((element 8 (entry_list completed_kind)).read octets.now at) }
-{
-    let Some(body) = find(octets, at, COMPLETED_LIST)? else {
-        return Err(missing(at));
-    };
-    Ok(read_list::<CompletedEntry>(octets, at, body)?)
-}
+    ghost meant = { cells_meant };
 
-pub fn optional_completed_list<'a>(
-    octets: &'a [u8],
-    at: usize,
-) -> Result<(Option<Entries<'a, CompletedEntry>>, usize), Fault>
-    ensures { Got (mapped (listed completed_kind completed_meant)) result ((optional 8 (entry_list completed_kind)).read octets.now at) }
-{
-    let Some(body) = find(octets, at, COMPLETED_LIST)? else {
-        return Ok((None, at));
-    };
-    let (entries, next) = read_list::<CompletedEntry>(octets, at, body)?;
-    Ok((Some(entries), next))
+    ghost body = { cell_list };
+
+    fn read(reader: &mut Reader<'a>, start: usize) -> Result<Cells<'a>, ElementFault> {
+        let body = reader.at;
+        let end = end_of(reader, start)?;
+        if reader.octets[..end].get(body + 2) == Some(&u8::from(Form::All)) {
+            return if body + 3 == end {
+                reader.at = end;
+                Ok(Cells::All)
+            } else {
+                Err(ElementFault::OutOfRange(body))
+            };
+        }
+        Ok(Cells::Named(NamedCells::read(reader, start)?))
+    }
+
+    fn width(cells: Cells<'a>) -> Option<usize> {
+        limit(2 + cells_width(cells)?)
+    }
+
+    fn put(writer: &mut Writer<'_>, cells: Cells<'a>) {
+        put_cells(writer, cells);
+    }
 }

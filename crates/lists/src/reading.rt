@@ -1,144 +1,147 @@
-// List elements read, for every kind of entry: a list is checked once, and its entries are then given where they stand.
-ghost use Rattle.std.specs.Prelude.{◌≡◌, ◌+◌, ◌<◌, ◌≤◌, length, take, IfOk};
-ghost use Rattle.elements.specs.Octets.{Got, Told};
-ghost use Rattle.lists.specs.Entries.{read_entries};
-ghost use Rattle.lists.specs.Views.{entries_from};
+// Lists read, for every kind of entry: a list is checked once, and its entries are then given where they stand.
+ghost use Rattle.std.specs.Prelude.{◌≡◌, ◌+◌, ◌<◌, ◌≤◌, length, IfOk};
+ghost use Rattle.elements.specs.Octets.{Got};
+ghost use Rattle.elements.specs.Reads.{Reads};
+ghost use Rattle.lists.specs.Entries.{read_entries, read_entry, read_form};
+ghost use Rattle.lists.specs.Forms.{form_code, form_number};
 ghost use Rattle.lists.specs.Listed.{Counted, Whole, listed};
 ghost use Rattle.lists.specs.Lists.{end_of, heading as heading_of, read_list};
-ghost use Rattle.lists.specs.Spans.{spanned};
+ghost use Rattle.lists.specs.Views.{entries_from};
 
-use crate::entries::{Entries, EntryView};
-use crate::entry::{ListEntry, read_entry};
+use crate::cell::read_cell;
+use crate::entries::{Entries, EntryView, ListHead};
+use crate::entry::ListEntry;
+use crate::form::Form;
+use cbsp::octets::two_at;
 use elements::faults::{ElementFault, EntryFault};
-use elements::octets::two_at;
+use elements::reader::Reader;
 use std::marker::PhantomData;
 
-// How many entries stand from a place to `end`.
-fn count_entries<E: ListEntry + Drop>(
-    octets: &[u8],
-    at: usize,
-    heading: u8,
-    end: usize,
-    broken: EntryFault,
-) -> Result<usize, EntryFault>
-    requires { (at ≤ end) × (end ≤ length octets.now) }
-    ensures { Counted result (λ n. entries_from E.ListEntry.kind broken heading end octets.now n at) (read_entries E.ListEntry.kind broken heading end octets.now E.ListEntry.kind.most at) }
-{
-    let most = E::capacity();
-    let mut count = 0;
-    let mut next = at;
-    while next < end {
-        if count == most {
-            return Err(broken);
+impl ListHead {
+    // The discriminator of the entry at the reader's place.
+    fn read_form<E: ListEntry>(self, reader: &mut Reader<'_>) -> Result<Form, EntryFault>
+        requires { reader.old.at < length reader.old.octets.now }
+        ensures value { Reads form_code reader.old result reader.new (read_form E.ListEntry.kind (form_number self.form) reader.old.octets.now reader.old.at) }
+        ensures bound { IfOk result (λ _. (reader.old.at ≤ reader.new.at) × (reader.new.at ≤ length reader.old.octets.now)) }
+    {
+        let start = reader.at;
+        let form = if E::HEADED {
+            self.form
+        } else {
+            reader.at += 1;
+            Form::try_from(reader.octets[start]).ok()
+        };
+        match form {
+            Some(own) if E::takes(own) => Ok(own),
+            _ => Err(EntryFault { place: start }),
         }
-        let (_, after) = read_entry::<E>(octets, next, heading, end, broken)?;
-        count += 1;
-        next = after;
     }
-    Ok(count)
+
+    // The entry at the reader's place, before the end.
+    pub fn read_entry<E: ListEntry>(self, reader: &mut Reader<'_>) -> Result<E, EntryFault>
+        requires { reader.old.at < length reader.old.octets.now }
+        ensures value { Reads E.ListEntry.meant reader.old result reader.new (read_entry E.ListEntry.kind self.broken (form_number self.form) (length reader.old.octets.now) reader.old.octets.now reader.old.at) }
+        ensures bound { IfOk result (λ _. (reader.old.at < reader.new.at) × (reader.new.at ≤ length reader.old.octets.now)) }
+    {
+        let form = self.read_form::<E>(reader)?;
+        let cell = read_cell(reader, form, self.broken)?;
+        let tail = reader.at;
+        if reader.left() < E::TAIL {
+            return Err(self.broken);
+        }
+        reader.at += E::TAIL;
+        E::make(cell, &reader.octets[tail..reader.at]).map_err(|flaw| EntryFault {
+            place: tail + flaw.index,
+        })
+    }
+
+    // How many entries stand from the reader's place to the end. A while: the reader itself says when the
+    // entries end, and how many there are is what is sought.
+    fn count_entries<E: ListEntry + Drop>(self, reader: Reader<'_>) -> Result<usize, EntryFault>
+        requires { reader.at ≤ length reader.octets.now }
+        ensures { Counted result (λ n. entries_from E.ListEntry.kind self.broken (form_number self.form) (length reader.entry.octets.now) reader.entry.octets.now n reader.entry.at) (read_entries E.ListEntry.kind self.broken (form_number self.form) (length reader.entry.octets.now) reader.entry.octets.now E.ListEntry.kind.most reader.entry.at) }
+    {
+        let mut rest = reader;
+        let mut count = 0;
+        while rest.at < rest.octets.len() {
+            if count == E::MOST {
+                return Err(self.broken);
+            }
+            let _entry: E = self.read_entry(&mut rest)?;
+            count += 1;
+        }
+        Ok(count)
+    }
 }
 
-// Where a list ends whose length stands at `body`.
-pub fn end_of(octets: &[u8], at: usize, body: usize) -> Result<usize, ElementFault>
-    requires { body ≤ length octets.now }
-    ensures { result ≡ end_of octets.now at body }
+// Where a list ends whose length stands at the reader's place. No split_first_chunk: a length that is cut off
+// and a list that is are one fault, and the answer is a place.
+pub fn end_of(reader: &Reader<'_>, start: usize) -> Result<usize, ElementFault>
+    requires { reader.now.at ≤ length reader.now.octets.now }
+    ensures { result ≡ end_of reader.now.octets.now start reader.now.at }
 {
-    let left = octets.len() - body;
+    let left = reader.left();
     if left < 2 {
-        return Err(ElementFault::RunsPast(at));
+        return Err(ElementFault::RunsPast(start));
     }
-    let count = two_at(octets, body) as usize;
+    let count = two_at(reader.octets, reader.at) as usize;
     if left - 2 < count {
-        return Err(ElementFault::RunsPast(at));
+        return Err(ElementFault::RunsPast(start));
     }
-    Ok(body + 2 + count)
+    Ok(reader.at + 2 + count)
 }
 
-// The discriminator in the heading, 0 where there is none, and the place of the first entry.
+// The discriminator in the heading, where there is one, and the place of the first entry. By the index: that
+// the octet is there was asked, for a fault of its own.
 fn heading<E: ListEntry>(
     octets: &[u8],
     body: usize,
     end: usize,
-) -> Result<(u8, usize), ElementFault>
+) -> Result<(Option<Form>, usize), ElementFault>
     requires { (body + 2 ≤ end) × (end ≤ length octets.now) }
-    ensures { result ≡ heading_of E.ListEntry.kind.headed E.ListEntry.kind.forms octets.now body end }
+    ensures { Got form_number result (heading_of E.ListEntry.kind.headed E.ListEntry.kind.forms octets.now body end) }
 {
-    if !E::has_heading() {
-        return Ok((0, body + 2));
+    if !E::HEADED {
+        return Ok((None, body + 2));
     }
     if body + 2 == end {
         return Err(ElementFault::OutOfRange(body));
     }
-    let form = octets[body + 2];
-    if !E::takes(form) {
-        return Err(ElementFault::OutOfRange(body + 2));
+    match Form::try_from(octets[body + 2]) {
+        Ok(form) if E::takes(form) => Ok((Some(form), body + 3)),
+        _ => Err(ElementFault::OutOfRange(body + 2)),
     }
-    Ok((form, body + 3))
 }
 
-// The octets before `end`.
-fn up_to<'a>(octets: &'a [u8], end: usize) -> &'a [u8]
-    requires { end ≤ length octets.now }
-    ensures { result.now ≡ take end octets.now }
+// The list whose length stands at the reader's place, checked, of an element that begins at `start`.
+pub fn read_list<'a, E: ListEntry + Drop>(
+    reader: &mut Reader<'a>,
+    start: usize,
+) -> Result<Entries<'a, E>, ElementFault>
+    requires { reader.old.at ≤ length reader.old.octets.now }
+    ensures value { Reads (listed E.ListEntry.kind E.ListEntry.meant) reader.old result reader.new (read_list E.ListEntry.kind reader.old.octets.now start reader.old.at) }
+    ensures whole { IfOk result (Whole E.ListEntry.kind E.ListEntry.meant) }
 {
-    &octets[0..end]
-}
-
-// Where the entries of a checked list stand, and how many they are.
-#[derive(Clone, Copy)]
-pub struct Span {
-    pub form: u8,
-    pub first: usize,
-    pub end: usize,
-    pub count: usize,
-}
-
-fn check_list<E: ListEntry + Drop>(
-    octets: &[u8],
-    at: usize,
-    body: usize,
-) -> Result<Span, ElementFault>
-    requires { body ≤ length octets.now }
-    ensures value { Told (λ s. (spanned E.ListEntry.kind body octets.now s, s.end)) result (read_list E.ListEntry.kind octets.now at body) }
-    ensures whole { IfOk result (λ s. (s.end ≤ length octets.now) × (length (spanned E.ListEntry.kind body octets.now s) ≡ s.count)) }
-{
-    let end = end_of(octets, at, body)?;
-    let (form, first) = heading::<E>(octets, body, end)?;
-    let broken = EntryFault { place: body };
-    let count = count_entries::<E>(up_to(octets, end), first, form, end, broken)?;
-    if count == 0 {
+    let body = reader.at;
+    let end = end_of(reader, start)?;
+    let (form, first) = heading::<E>(reader.octets, body, end)?;
+    let head = ListHead {
+        form,
+        broken: EntryFault { place: body },
+    };
+    let entries = Reader {
+        octets: &reader.octets[..end],
+        at: first,
+    };
+    let left = head.count_entries::<E>(entries)?;
+    if left == 0 {
         return Err(ElementFault::OutOfRange(body));
     }
-    Ok(Span {
-        form,
-        first,
-        end,
-        count,
-    })
-}
-
-// The list whose length stands at `body`, checked, and the place after it.
-pub fn read_list<'a, E: ListEntry + Drop>(
-    octets: &'a [u8],
-    at: usize,
-    body: usize,
-) -> Result<(Entries<'a, E>, usize), ElementFault>
-    requires { body ≤ length octets.now }
-    ensures value { Got (listed E.ListEntry.kind E.ListEntry.meant) result (read_list E.ListEntry.kind octets.now at body) }
-    ensures whole { IfOk result (λ p. Whole E.ListEntry.kind E.ListEntry.meant p.0) }
-{
-    match check_list::<E>(octets, at, body) {
-        Ok(span) => {
-            let view = EntryView {
-                octets: up_to(octets, span.end),
-                at: span.first,
-                form: span.form,
-                left: span.count,
-                broken: EntryFault { place: body },
-                kind: PhantomData,
-            };
-            Ok((Entries::Read(view), span.end))
-        }
-        Err(fault) => Err(fault),
-    }
+    reader.at = end;
+    Ok(Entries::Read(EntryView {
+        reader: entries,
+        head,
+        left,
+        kind: PhantomData,
+    }))
 }

@@ -8,14 +8,16 @@ use answers::answer::{Answer, ErrorIndication};
 use elements::faults::Fault;
 
 // ERROR INDICATION with the fault's cause alone.
-pub fn error_indication<'a>(fault: Fault) -> Message<'a>
-    ensures { message_meant result ≡ answer (error (error_for fault)) }
-{
-    Message::Answer(Answer::ErrorIndication(ErrorIndication {
-        cause: fault.cause,
-        identifier: None,
-        new_serial: None,
-        old_serial: None,
-        channel: None,
-    }))
+impl<'a> From<Fault> for Message<'a> {
+    ghost from_gives = { λ fault r. message_meant r ≡ answer (error (error_for fault)) };
+
+    fn from(fault: Fault) -> Message<'a> {
+        Message::Answer(Answer::ErrorIndication(ErrorIndication {
+            cause: fault.cause,
+            identifier: None,
+            new_serial: None,
+            old_serial: None,
+            channel: None,
+        }))
+    }
 }

@@ -1,8 +1,6 @@
 // The worked examples.
 ghost use Rattle.messages.specs.Examples.{FaultsHold, MessagesHold, ValuesHold};
 
-pub fn examples_hold() -> u8
+pub fn examples_hold()
     ensures { (MessagesHold) × ((FaultsHold) × (ValuesHold)) }
-{
-    0
-}
+{}

@@ -6,7 +6,7 @@ ghost use Rattle.messages.specs.Messages.{InRange, asks as asks_for, message_mea
 
 use crate::message::{Message, Unread};
 use answers::reading::read_answer_of;
-use cbsp::framing::{HEADER, LONGEST};
+use cbsp::framing::{LONGEST, announced};
 use cbsp::message_type::MessageType;
 use cbsp::refusal::Refusal;
 use elements::faults::Fault;
@@ -28,20 +28,25 @@ impl From<Fault> for Unread {
     }
 }
 
+// Whether a type is that of a request. A yes or no: the types themselves say nothing of their side, and the
+// definition of read_framed asks the same.
 fn asks(kind: Option<MessageType>) -> bool
     ensures { result ≡ asks_for kind }
 {
-    match kind {
-        Some(MessageType::WriteReplace) => true,
-        Some(MessageType::Kill) => true,
-        Some(MessageType::MessageStatusQuery) => true,
-        Some(MessageType::Reset) => true,
-        Some(MessageType::KeepAlive) => true,
-        _ => false,
-    }
+    matches!(
+        kind,
+        Some(
+            MessageType::WriteReplace
+                | MessageType::Kill
+                | MessageType::MessageStatusQuery
+                | MessageType::Reset
+                | MessageType::KeepAlive
+        )
+    )
 }
 
-// What a framed message is, request, answer or indication.
+// What a framed message is, request, answer or indication. Halves by asks, no arm for each type: requests and
+// answers are read in crates of their own.
 pub fn read_framed<'a>(octets: &'a [u8]) -> Result<Message<'a>, Fault>
     ensures { Told message_meant result (read_framed octets.now) }
 {
@@ -59,14 +64,10 @@ pub fn check_whole(octets: &[u8]) -> Result<(), Refusal>
     if octets.len() > LONGEST {
         return Err(Refusal::MessageTooLong);
     }
-    if octets.len() < HEADER {
-        return Err(Refusal::MessageNotWhole);
+    match announced(octets) {
+        Some(whole) if whole == octets.len() => Ok(()),
+        _ => Err(Refusal::MessageNotWhole),
     }
-    let body = octets[1] as usize * 65536 + octets[2] as usize * 256 + octets[3] as usize;
-    if HEADER + body != octets.len() {
-        return Err(Refusal::MessageNotWhole);
-    }
-    Ok(())
 }
 
 fn read_checked<'a>(octets: &'a [u8]) -> Result<Message<'a>, Unread>

@@ -1,6 +1,6 @@
 -- The names of an entry, one cell after the other.
-use Rattle.std.proofs.Common.{◌≡◌, ℕ, ◌+◌, ◌<◌, ◌≤◌, Bool, true, false, cond, ◌||◌, List, [], ◌∷◌, length, get_or, drop, fold, sym, refl, ap, ◌∙◌}
-use Rattle.std.proofs.lemmas.List.{at_drop_more, at_drop_all}
+use Rattle.std.proofs.Common.{◌≡◌, ℕ, ◌+◌, ◌<◌, Bool, true, false, cond, ◌||◌, List, [], ◌∷◌, length, get_or, drop, fold, sym, refl, ap, ◌∙◌}
+use Rattle.std.proofs.lemmas.List.{at_drop_more}
 use Rattle.std.proofs.lemmas.Bool.{or_right}
 use Rattle.cells.specs.declared.cell.Cell.{Cell}
 use Rattle.lists.specs.declared.cell.CellIdentity.{CellIdentity}
@@ -14,15 +14,6 @@ pub record Walked (e : CellIdentity) (cs : List Cell) (i : ℕ) (found : Bool) (
 
 or_true : (b : Bool) → (b || true) ≡ true
 or_true b = or_right b true refl
-
-or_false : (b : Bool) → (b || false) ≡ b
-or_false true = refl
-or_false false = refl
-
-pub walk_end : (e : CellIdentity) (cs : List Cell) (i : ℕ) (found : Bool) (s start : Stage) → length cs ≤ i → Walked e cs i found s start → (found ≡ is_some (names cs e)) × (s ≡ fold noted start (names cs e))
-walk_end e cs i found s start le w =
-    let none = at_drop_all (names_from e i) cs i le in
-    (sym (or_false found) ∙ ap (λ (ks : List ℕ). found || is_some ks) (sym none) ∙ w.finds, ap (λ (ks : List ℕ). fold noted s ks) (sym none) ∙ w.folds)
 
 module _ (e : CellIdentity) (cs : List Cell) (i : ℕ) (d : Cell) (found : Bool) (s start : Stage) where
   step : i < length cs → names_from e i (drop i cs) ≡ cond (is_found e (get_or cs i d)) (i ∷ cond (names_only_first e) [] (names_from e (i + 1) (drop (i + 1) cs))) (names_from e (i + 1) (drop (i + 1) cs))
@@ -40,8 +31,3 @@ module _ (e : CellIdentity) (cs : List Cell) (i : ℕ) (d : Cell) (found : Bool)
         folds = ap (λ (ks : List ℕ). fold noted s ks) (sym same) ∙ w.folds;
         finds = sym (or_true found) ∙ ap (λ (ks : List ℕ). found || is_some ks) (sym same) ∙ w.finds;
       }
-
-  pub walk_last : i < length cs → is_found e (get_or cs i d) ≡ true → names_only_first e ≡ true → Walked e cs i found s start → (true ≡ is_some (names cs e)) × (noted s i ≡ fold noted start (names cs e))
-  walk_last l y f w =
-      let same : names_from e i (drop i cs) ≡ i ∷ [] = step l ∙ rw (y, f) in
-      (sym (or_true found) ∙ ap (λ (ks : List ℕ). found || is_some ks) (sym same) ∙ w.finds, ap (λ (ks : List ℕ). fold noted s ks) (sym same) ∙ w.folds)

@@ -1,6 +1,6 @@
 -- What comes of the entries of a Cell List: entries in list order, the cells of an entry in the order of their numbers, each cell at its
 -- first naming only.
-use Rattle.std.specs.Prelude.{ℕ, ◌<◌, Bool, true, false, cond, List, [], ◌∷◌, ◌++◌, map, length, replicate, fold, ◌≢◌, slice_set}
+use Rattle.std.specs.Prelude.{ℕ, ◌+◌, ◌<◌, Bool, true, false, cond, List, [], ◌∷◌, ◌++◌, map, length, replicate, fold, ◌≢◌, slice_set}
 use Rattle.std.specs.List.{AllByRecursion}
 use Rattle.cells.specs.declared.cell.Cell.{Cell}
 use Rattle.lists.specs.declared.cell.CellIdentity.{CellIdentity}
@@ -10,7 +10,7 @@ use Rattle.lists.specs.CellLists.{CellsV}
 use Rattle.lists.specs.CellLists.CellsV.{all, named}
 use Rattle.naming.specs.declared.naming.Naming.{Naming}
 use Rattle.naming.specs.declared.naming.Naming.TheVariants as naming
-use Rattle.naming.specs.Marks.{is_clear}
+use Rattle.naming.specs.Marks.{clear_marks, is_clear}
 use Rattle.naming.specs.Names.{names}
 
 -- the marks, and what came of the entries so far
@@ -20,6 +20,10 @@ pub record Stage : Type 0 where
 
 abbrev pub stage : List ℕ → List Naming → Stage
 stage ms out = record { marks = ms; out = out }
+
+-- as many namings there are at most once every cell is named
+abbrev pub at_most : Stage → ℕ
+at_most s = length s.out + clear_marks s.marks
 
 -- a cell is named
 abbrev pub noted : Stage → ℕ → Stage

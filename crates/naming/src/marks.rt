@@ -16,12 +16,14 @@ impl Drop for Marks<'_> {
     }
 }
 
-// Whether the cell was not named before; it is now.
+// Whether the cell was not named before; it is now. A bool, as the insert of a set answers one: a cell that
+// was named before is no error.
 pub fn mark(octets: &mut [u8], cell: usize) -> bool
     ensures value { result ≡ is_clear octets.old cell }
     ensures fewer { clear_marks octets.new + (if result then 1 else 0) ≡ clear_marks octets.old }
     ensures after { octets.new ≡ (if result then slice_set octets.old cell 1 else octets.old) }
 {
+    // by the index: after `get_mut` under a guard a proof knows nothing of the other marks
     if cell >= octets.len() || octets[cell] != 0 {
         return false;
     }

@@ -1,82 +1,96 @@
 // The entries of a Cell List, one after the other.
-ghost use Rattle.std.specs.Prelude.{◌≡◌, ◌+◌, ◌<◌, ◌≤◌, [], ◌∷◌, ◌++◌, length, vec_len, vec_capacity, fold};
-ghost use Rattle.naming.specs.Marks.{clear_marks};
+ghost use Rattle.std.specs.Prelude.{◌≡◌, ◌+◌, ◌<◌, ◌≤◌, length, fold};
 ghost use Rattle.naming.specs.Names.{names};
+ghost use Rattle.lists.specs.CellLists.{cells_meant};
 ghost use Rattle.lists.specs.Kinds.{cell_kind, cell_meant};
 ghost use Rattle.lists.specs.Listed.{listed};
-ghost use Rattle.naming.specs.Namings.{entered, identities_of, is_some, noted, stage};
+ghost use Rattle.naming.specs.Namings.{at_most, entered, identities_of, is_some, named_by, noted};
+ghost use Rattle.naming.specs.Walks.{SameLoans, stage_of};
 
+use crate::list::MOST_NAMINGS;
 use crate::marks::mark;
 use crate::names::{is_meant, names_only_first};
 use crate::naming::Naming;
+use bounded::list::Bounded;
 use cells::cell::Cell;
 use lists::cell::CellIdentity;
+use lists::cells::Cells;
 use lists::entries::Entries;
 use lists::kinds::CellEntry;
 
-// A cell is named.
-fn note(marks: &mut [u8], cell: usize, out: &mut Vec<Naming>)
-    requires { vec_len out.old + clear_marks marks.old ≤ vec_capacity out.old }
-    ensures noted { stage marks.new out.new.items ≡ noted (stage marks.old out.old.items) cell }
-    ensures room { vec_len out.new + clear_marks marks.new ≡ vec_len out.old + clear_marks marks.old }
-    ensures reserved { vec_capacity out.new ≡ vec_capacity out.old }
-{
-    if mark(marks, cell) {
-        out.push_reserved(Naming::Cell(cell));
-    }
+// The marks, and what came of the entries so far, in memory that is lent.
+#[derive(Drop)]
+pub(crate) struct Walk<'a> {
+    pub(crate) marks: &'a mut [u8],
+    pub(crate) out: &'a mut Bounded<Naming, MOST_NAMINGS>,
 }
 
-// The cells that an entry names; whether there is one.
-fn note_names(
-    cells: &[Cell],
-    identity: CellIdentity,
-    marks: &mut [u8],
-    out: &mut Vec<Naming>,
-) -> bool
-    requires { vec_len out.old + clear_marks marks.old ≤ vec_capacity out.old }
-    ensures found { result ≡ is_some (names cells.now identity) }
-    ensures noted { stage marks.new out.new.items ≡ fold noted (stage marks.old out.old.items) (names cells.now identity) }
-    ensures room { vec_len out.new + clear_marks marks.new ≡ vec_len out.old + clear_marks marks.old }
-    ensures reserved { vec_capacity out.new ≡ vec_capacity out.old }
-{
-    let mut found = false;
-    for (k, cell) in cells.iter().enumerate() {
-        if is_meant(identity, cell) {
-            note(marks, k, out);
-            if names_only_first(identity) {
-                return true;
-            }
-            found = true;
+// SameLoans stands in each: a struct of loans does not say by itself that it ends with the loans it had.
+impl Walk<'_> {
+    // A cell is named.
+    fn note(&mut self, cell: usize)
+        requires { at_most (stage_of self.old) ≤ 192 }
+        ensures noted { stage_of self.new ≡ noted (stage_of self.old) cell }
+        ensures same { SameLoans self.old self.new }
+    {
+        if mark(self.marks, cell) {
+            self.out.push_reserved(Naming::Cell(cell));
         }
     }
-    found
-}
 
-// An entry: the cells that it names, or the entry itself where it names none.
-pub(crate) fn enter(cells: &[Cell], identity: CellIdentity, marks: &mut [u8], out: &mut Vec<Naming>)
-    requires { vec_len out.old + clear_marks marks.old < vec_capacity out.old }
-    ensures entered { stage marks.new out.new.items ≡ entered cells.now (stage marks.old out.old.items) identity }
-    ensures room { vec_len out.new + clear_marks marks.new ≤ vec_len out.old + clear_marks marks.old + 1 }
-    ensures reserved { vec_capacity out.new ≡ vec_capacity out.old }
-{
-    if !note_names(cells, identity, marks, out) {
-        out.push_reserved(Naming::NoCell(identity));
+    // The cells that an entry names; whether there is one. A bool: that is all that is asked, and that there
+    // is none is no error here. A flag, no filter: after a closure that changes the walk, a proof knows
+    // nothing of it.
+    fn note_names(&mut self, cells: &[Cell], identity: CellIdentity) -> bool
+        requires { at_most (stage_of self.old) ≤ 192 }
+        ensures found { result ≡ is_some (names cells.now identity) }
+        ensures noted { stage_of self.new ≡ fold noted (stage_of self.old) (names cells.now identity) }
+        ensures same { SameLoans self.old self.new }
+    {
+        let mut found = false;
+        for (k, cell) in cells.iter().enumerate() {
+            if is_meant(identity, cell) {
+                self.note(k);
+                if names_only_first(identity) {
+                    return true;
+                }
+                found = true;
+            }
+        }
+        found
     }
-}
 
-// Entries in list order.
-pub(crate) fn enter_all(
-    cells: &[Cell],
-    entries: Entries<'_, CellEntry>,
-    marks: &mut [u8],
-    out: &mut Vec<Naming>,
-)
-    requires { vec_len out.old + clear_marks marks.old + length (identities_of (listed cell_kind cell_meant entries)) ≤ vec_capacity out.old }
-    ensures entered { stage marks.new out.new.items ≡ fold (entered cells.now) (stage marks.old out.old.items) (identities_of (listed cell_kind cell_meant entries.entry)) }
-    ensures room { vec_len out.new + clear_marks marks.new ≤ vec_len out.old + clear_marks marks.old + length (identities_of (listed cell_kind cell_meant entries.entry)) }
-    ensures reserved { vec_capacity out.new ≡ vec_capacity out.old }
-{
-    for given in entries {
-        enter(cells, given.cell, marks, out);
+    // An entry: the cells that it names, or the entry itself where it names none.
+    fn enter(&mut self, cells: &[Cell], identity: CellIdentity)
+        requires { at_most (stage_of self.old) < 192 }
+        ensures entered { stage_of self.new ≡ entered cells.now (stage_of self.old) identity }
+        ensures same { SameLoans self.old self.new }
+    {
+        if !self.note_names(cells, identity) {
+            self.out.push_reserved(Naming::NoCell(identity));
+        }
+    }
+
+    // Entries in list order. A for, no for_each: what it calls changes the walk.
+    fn enter_all(&mut self, cells: &[Cell], entries: Entries<'_, CellEntry>)
+        requires { at_most (stage_of self.old) + length (identities_of (listed cell_kind cell_meant entries)) ≤ 192 }
+        ensures entered { stage_of self.new ≡ fold (entered cells.now) (stage_of self.old) (identities_of (listed cell_kind cell_meant entries.entry)) }
+        ensures same { SameLoans self.old self.new }
+    {
+        for given in entries {
+            self.enter(cells, given.cell);
+        }
+    }
+
+    // All cells, or entries in list order.
+    pub(crate) fn enter_list(&mut self, cells: &[Cell], list: Cells<'_>)
+        requires { at_most (stage_of self.old) + length (named_by (cells_meant list)) ≤ 192 }
+        ensures entered { stage_of self.new ≡ fold (entered cells.now) (stage_of self.old) (named_by (cells_meant list.entry)) }
+        ensures same { SameLoans self.old self.new }
+    {
+        match list {
+            Cells::All => self.enter(cells, CellIdentity::All),
+            Cells::Named(entries) => self.enter_all(cells, entries),
+        }
     }
 }

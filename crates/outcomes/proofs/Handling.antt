@@ -12,6 +12,7 @@ use Rattle.naming.proofs.Onces.{sound}
 use Rattle.replies.specs.Worked.{worked}
 use Rattle.rows.specs.declared.row.Row.{Row}
 use Rattle.table.specs.declared.outcome.Outcome.{Outcome}
+use Rattle.table.specs.Acts.{Acts}
 use Rattle.table.specs.Settings.{Setting, here}
 use Rattle.table.specs.Handling.{Stage, stage, setting_at, comes_of, rows_on, request_on, step_on, handled}
 use Rattle.outcomes.specs.Tells.{is_of, outcome_at, SoundFor, AllSound, of_cell, cell_count, By, Tells}
@@ -91,13 +92,13 @@ module _ (cells : List Cell) (E : Outcome → List Row → List Row → Type 0) 
       }
 
 -- a kind of request
-module _ {R : Type 0} (answer : R → Setting → Outcome) (leaves : R → Setting → List (List Row)) (becomes : R → Setting → R) where
+module _ {R : Type 0} (acts : Acts R) where
   -- what it did in one cell: E tells it by the outcome, and Is still holds of the request
   pub record Local (Is : R → Type 0) (E : Outcome → List Row → List Row → Type 0) (q : R) (s : Setting) : Type 0 where
-    pub whom : (answer q s).whom ≡ naming.Cell s.cell
-    pub only : OnlyAt s.cell s.rows (leaves q s)
-    pub at : E (answer q s) (here s) (get_or (leaves q s) s.cell [])
-    pub still : Is (becomes q s)
+    pub whom : (acts.answer q s).whom ≡ naming.Cell s.cell
+    pub only : OnlyAt s.cell s.rows (acts.leaves q s)
+    pub at : E (acts.answer q s) (here s) (get_or (acts.leaves q s) s.cell [])
+    pub still : Is (acts.becomes q s)
 
   -- it does that in every cell that is there
   abbrev pub Locally : (R → Type 0) → (Outcome → List Row → List Row → Type 0) → Type 0
@@ -108,39 +109,38 @@ module _ {R : Type 0} (answer : R → Setting → Outcome) (leaves : R → Setti
     abbrev outcomes_of : R → List (List Row) → List Naming → List Outcome
     outcomes_of q rows [] = []
     outcomes_of q rows (n ∷ ns) =
-        comes_of answer leaves becomes cells opened q rows n
-        ∷ outcomes_of (request_on answer leaves becomes cells opened q rows n) (rows_on answer leaves becomes cells opened q rows n) ns
+        comes_of acts cells opened q rows n
+        ∷ outcomes_of (request_on acts cells opened q rows n) (rows_on acts cells opened q rows n) ns
 
-    handled_out : (ns : List Naming) (s : Stage R) → (handled answer leaves becomes cells opened s ns).out ≡ s.out ++ outcomes_of s.request s.rows ns
+    handled_out : (ns : List Naming) (s : Stage R) → (handled acts cells opened s ns).out ≡ s.out ++ outcomes_of s.request s.rows ns
     handled_out [] s = sym (append-nil s.out)
-    handled_out (n ∷ ns) s = handled_out ns (step_on answer leaves becomes cells opened s n) ∙ append_assoc s.out _ _
+    handled_out (n ∷ ns) s = handled_out ns (step_on acts cells opened s n) ∙ append_assoc s.out _ _
 
 -- a kind of request whose outcome in a cell tells what it did there
-module _ {R : Type 0} {answer : R → Setting → Outcome} {leaves : R → Setting → List (List Row)} {becomes : R → Setting → R}
-    {Is : R → Type 0} {E : Outcome → List Row → List Row → Type 0} (local : Locally answer leaves becomes Is E) (cells : List Cell) (opened : ℕ → Bool) where
+module _ {R : Type 0} {acts : Acts R} {Is : R → Type 0} {E : Outcome → List Row → List Row → Type 0} (local : Locally acts Is E) (cells : List Cell) (opened : ℕ → Bool) where
   told : (ns : List Naming) (s : Stage R) → Is s.request → length s.rows ≡ length cells → AllByRecursion (Right cells) ns → Once (cells_in ns)
-      → Told cells E s.rows (handled answer leaves becomes cells opened s ns).rows ns (outcomes_of answer leaves becomes cells opened s.request s.rows ns)
+      → Told cells E s.rows (handled acts cells opened s ns).rows ns (outcomes_of acts cells opened s.request s.rows ns)
   told [] s is long right once = record { whom = refl; sound = tt; cell = λ k. refl; long = refl }
   told (naming.Cell k ∷ ns) s is long right once =
       let within : k < length s.rows = omega (arith, right.0) in
-      let d = local s.request (setting_at answer leaves becomes cells opened s.rows k) is within in
-      let next : Stage R = step_on answer leaves becomes cells opened s (naming.Cell k) in
+      let d = local s.request (setting_at acts cells opened s.rows k) is within in
+      let next : Stage R = step_on acts cells opened s (naming.Cell k) in
       told_cell cells E k _ s.rows next.rows _ ns _ d.whom right.0 d.only d.at once.0 (told ns next d.still (d.only.long ∙ long) right.1 once.1)
   told (naming.NoCell e ∷ ns) s is long right once =
-      let t = told ns (step_on answer leaves becomes cells opened s (naming.NoCell e)) is long right.1 once in
+      let t = told ns (step_on acts cells opened s (naming.NoCell e)) is long right.1 once in
       record { whom = ap (λ (ms : List Naming). naming.NoCell e ∷ ms) t.whom; sound = ((refl, right.0), t.sound); cell = t.cell; long = t.long }
 
   -- over what a list comes to
   pub tells : (q : R) (rows : List (List Row)) (list : CellsV) → Is q → length rows ≡ length cells
-      → Tells cells list E rows (worked answer leaves becomes cells opened q rows list).rows (worked answer leaves becomes cells opened q rows list).out
+      → Tells cells list E rows (worked acts cells opened q rows list).rows (worked acts cells opened q rows list).out
   tells q rows list is long =
       let es = named_by list in
       let ns = namings cells es in
-      let os = outcomes_of answer leaves becomes cells opened q rows ns in
+      let os = outcomes_of acts cells opened q rows ns in
       let t = told ns (stage q rows []) is long (namings_right cells es) (sound cells es).1 in
       let all : length os ≡ length ns = sym (length-map os (λ (o : Outcome). o.whom)) ∙ ap (λ (ms : List Naming). length ms) t.whom in
       let of-cells : cell_count os ≡ length (cells_in ns) = cells_counted os ∙ ap (λ (ms : List Naming). length (cells_in ms)) t.whom in
-      rw (handled_out answer leaves becomes cells opened ns (stage q rows []))
+      rw (handled_out acts cells opened ns (stage q rows []))
       (record {
         sound = t.sound;
         cell = t.cell;

@@ -9,13 +9,10 @@ use Rattle.rows.specs.declared.key.Key.{Key}
 use Rattle.rows.specs.declared.row.Row.{Row}
 use Rattle.rows.specs.Keys.{is_same, first_of, without}
 use Rattle.table.specs.declared.asked.Asked.{Asked}
-use Rattle.table.specs.declared.references.Kill.{Kill}
-use Rattle.table.specs.declared.references.Query.{Query}
-use Rattle.table.specs.declared.references.Reset.{Reset}
 use Rattle.table.specs.declared.write.Write.{Write}
-use Rattle.table.specs.References.{counted, answer_reference, killed, answer_reset, emptied}
+use Rattle.table.specs.References.{counted, kill_acts, query_acts, reset_acts}
 use Rattle.table.specs.Settings.{Setting, here, replaced, count_of}
-use Rattle.table.specs.Write.{key_in, row_of, bar, blocked, cut, ended_by, cleared, slot_now, cause_now, answer_write, written, write_after}
+use Rattle.table.specs.Write.{key_in, row_of, bar, blocked, cut, ended_by, cleared, slot_now, cause_now, answer_write, written, write_after, write_acts}
 use Rattle.outcomes.specs.Tells.{Cut, cut_by, grown_by, is_old_of, is_old, Begun, Killed, Emptied, Left}
 use Rattle.outcomes.proofs.Handling.{OnlyAt, only_none, only_set, only_then, Locally}
 
@@ -67,7 +64,7 @@ counted_ended k None = refl
 counted_ended k (Some r) = refl
 
 -- KILL asks for the same key all the while
-pub kill_local : (key : Key) → Locally (λ (q : Kill) (s : Setting). answer_reference q.key s) (λ q s. killed q.key s) (λ q s. q) (λ q. q.key ≡ key) (Killed key)
+pub kill_local : (key : Key) → Locally kill_acts (λ q. q.key ≡ key) (Killed key)
 kill_local key q s e l =
     record {
       whom = counted_whom s.cell (first_of (is_same q.key) (here s));
@@ -76,11 +73,11 @@ kill_local key q s e l =
       still = e;
     }
 
-pub query_local : Locally (λ (q : Query) (s : Setting). answer_reference q.key s) (λ q s. s.rows) (λ q s. q) (λ q. Unit {0}) Left
+pub query_local : Locally query_acts (λ q. Unit {0}) Left
 query_local q s e l =
     record { whom = counted_whom s.cell (first_of (is_same q.key) (here s)); only = only_none s.cell s.rows; at = refl; still = tt }
 
-pub reset_local : Locally (λ (q : Reset) (s : Setting). answer_reset s) (λ q s. emptied s) (λ q s. q) (λ q. Unit {0}) Emptied
+pub reset_local : Locally reset_acts (λ q. Unit {0}) Emptied
 reset_local q s e l =
     record {
       whom = refl;
@@ -170,7 +167,7 @@ module _ (w : Write) (s : Setting) (within : s.cell < length s.rows) where
   begun = record { slot = unwrap_or (slot_now w s) 0; between = between w s; cut = cut_here; grown = grown; few = few_after }
 
 -- WRITE-REPLACE asks the same all the while
-pub write_local : (q : Asked) → Locally answer_write written write_after (λ w. w.asked ≡ q) (Begun q)
+pub write_local : (q : Asked) → Locally write_acts (λ w. w.asked ≡ q) (Begun q)
 unfolding answer_write write_after
 write_local q w s e l =
     record {

@@ -11,19 +11,19 @@ use Rattle.table.specs.declared.references.Query.{Query}
 use Rattle.table.specs.declared.references.Reset.{Reset}
 use Rattle.table.specs.declared.write.Write.{Write}
 use Rattle.table.specs.Handling.{Stage}
-use Rattle.table.specs.References.{answer_reference, answer_reset, emptied, killed}
-use Rattle.table.specs.Write.{answer_write, write_after, written}
+use Rattle.table.specs.References.{kill_acts, query_acts, reset_acts}
+use Rattle.table.specs.Write.{write_acts}
 
 -- the cells of a table, and which of them are open at the site
 module _ (cells : List Cell) (opened : ℕ → Bool) where
   abbrev pub kill_work : Key → List (List Row) → CellsV → Stage Kill
-  kill_work key rows list = worked (λ q s. answer_reference q.key s) (λ q s. killed q.key s) (λ q s. q) cells opened (record { key = key }) rows list
+  kill_work key rows list = worked kill_acts cells opened (record { key = key }) rows list
 
   abbrev pub query_work : Key → List (List Row) → CellsV → Stage Query
-  query_work key rows list = worked (λ q s. answer_reference q.key s) (λ q s. s.rows) (λ q s. q) cells opened (record { key = key }) rows list
+  query_work key rows list = worked query_acts cells opened (record { key = key }) rows list
 
   abbrev pub reset_work : List (List Row) → CellsV → Stage Reset
-  reset_work rows list = worked (λ q s. answer_reset s) (λ q s. emptied s) (λ q s. q) cells opened (record {}) rows list
+  reset_work rows list = worked reset_acts cells opened (record {}) rows list
 
   abbrev pub write_work : Asked → List (List Row) → CellsV → Stage Write
-  write_work q rows list = worked answer_write written write_after cells opened (record { asked = q; slot = None }) rows list
+  write_work q rows list = worked write_acts cells opened (record { asked = q; slot = None }) rows list

@@ -4,8 +4,6 @@
 ghost use Rattle.outcomes.specs.Tells.{OutcomesTell};
 
 // For every request, whatever the cells, the site, the messages and the list.
-pub fn outcomes_tell() -> u8
+pub fn outcomes_tell()
     ensures { OutcomesTell }
-{
-    0
-}
+{}

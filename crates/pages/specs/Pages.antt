@@ -1,5 +1,5 @@
 -- Message Content: an identifier, a length of 1 to 82, 82 octets of content.
-use Rattle.std.specs.Prelude.{◌≡◌, ℕ, zero, suc, ◌+◌, Bool, true, cond, ◌&&◌, List, [], ◌∷◌, ◌++◌, length, take, drop, Some, None, Ok, Err, Option, Result, ◌==◌, nat_le, slice_index}
+use Rattle.std.specs.Prelude.{ℕ, zero, suc, ◌+◌, Bool, true, cond, ◌&&◌, List, [], ◌∷◌, ◌++◌, length, map, take, drop, Some, None, Ok, Err, Option, Result, ◌==◌, nat_le, slice_index}
 use Rattle.std.specs.List.{flat_map}
 use Rattle.elements.specs.declared.faults.ElementFault.{ElementFault}
 use Rattle.elements.specs.declared.faults.ElementFault.TheVariants.{RunsPast, OutOfRange}
@@ -49,27 +49,13 @@ repeated {D} {P} n d p = record {
   read = λ os at. then (n.read os at) (λ i. then (d.read os i.1) (λ j. then (read_times p os i.0 j.1) (λ k. Ok ((j.0, k.0), k.1))));
 }
 
--- the next `left` pages from a place, up to the first that is not whole
-unfoldable pub pages_from : List ℕ → ℕ → ℕ → List Page
-pages_from os zero at = []
-pages_from os (suc left) at = cond (nat_le (at + 84) (length os)) (page_at os (at + 1) ∷ pages_from os left (at + 84)) []
+-- the page of a whole element
+abbrev pub whole_page : List ℕ → Page
+whole_page os = page_at os 1
 
 abbrev pub pages_meant : Pages → List Page
-pages_meant (Read v) = pages_from v.octets.now v.left v.at
-pages_meant (Given s) = s.now
-
-abbrev pub pages_left : Pages → ℕ
-pages_left (Read v) = v.left
-pages_left (Given s) = length s.now
-
--- the first of the pages, and the others stay; or there is none
-abbrev pub NextPage : Option Page → List Page → List Page → Type 0
-NextPage None was is = (was ≡ []) × (is ≡ [])
-NextPage (Some p) was is = was ≡ p ∷ is
-
-abbrev pub FewerPages : Option Page → ℕ → ℕ → Type 0
-FewerPages None was is = is ≡ was
-FewerPages (Some p) was is = is + 1 ≡ was
+pages_meant (Read es) = map whole_page es.now
+pages_meant (Given ps) = ps.now
 
 -- how many pages there are, where they can be spelt
 abbrev pub page_count : List Page → Option ℕ

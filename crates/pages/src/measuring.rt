@@ -1,33 +1,24 @@
 // Whether pages can be spelt.
-ghost use Rattle.std.specs.Prelude.{◌≡◌, ◌+◌, ◌*◌, ◌<◌, ◌≤◌, length, MatchOption};
-ghost use Rattle.pages.specs.Pages.{page as page_codec, page_count, pages_meant};
+ghost use Rattle.std.specs.Prelude.{◌≡◌};
+ghost use Rattle.pages.specs.Pages.{page_count, pages_meant};
 
-use crate::page::Page;
+use crate::content::MessageContent;
 use crate::pages::Pages;
-
-fn page_fits(page: &Page) -> bool
-    ensures { result ≡ page_codec.fits page.now }
-{
-    1 <= page.used && page.used <= 82
-}
+use cbsp::limits::MOST_PAGES;
+use elements::element::Element;
 
 // How many pages there are, nothing where there is none, there are more than fifteen, or one is out of range.
 pub fn page_count(pages: Pages<'_>) -> Option<usize>
     ensures { result ≡ page_count (pages_meant pages.entry) }
 {
     let mut rest = pages;
-    let mut count = 0;
-    while let Some(found) = rest.advance() {
-        if count == 15 {
-            return None;
-        }
-        if !page_fits(&found) {
-            return None;
-        }
-        count += 1;
-    }
-    if count == 0 {
+    if !rest.all(|page| MessageContent::width(page).is_some()) {
         return None;
     }
-    Some(count)
+    let count = pages.count();
+    if 1 <= count && count <= MOST_PAGES {
+        Some(count)
+    } else {
+        None
+    }
 }

@@ -1,8 +1,26 @@
 // A page: how many octets of it are user information, and the content with its filling.
-pub const PAGE_CONTENT: usize = 82;
+ghost use Rattle.std.specs.Prelude.{◌≡◌, ◌+◌, ◌≤◌, length};
+ghost use Rattle.pages.specs.Pages.{page_at};
 
-#[derive(Clone, Copy)]
+use cbsp::limits;
+
+pub const PAGE_CONTENT: usize = limits::PAGE_CONTENT;
+
+#[derive(Clone, Copy, PartialEq, Eq, Debug)]
 pub struct Page {
     pub used: u8,
-    pub content: [u8; 82],
+    // all 82 octets, also the filling: what is read is written back to the same octets
+    pub content: [u8; PAGE_CONTENT],
+}
+
+// The page whose length stands at a place. No From: a slice and a place, of which the contract says that 83
+// octets stand there.
+pub(crate) fn page_at(octets: &[u8], body: usize) -> Page
+    requires { body + 83 ≤ length octets.now }
+    ensures { result ≡ page_at octets.now body }
+{
+    let used = octets[body];
+    let mut content = [0; PAGE_CONTENT];
+    content.copy_from_slice(&octets[body + 1..body + 83]);
+    Page { used, content }
 }

@@ -1,16 +1,36 @@
-// Pages that are still to be given: where they stand in a message, or in a slice.
-use crate::page::Page;
+// Pages that are still to be given, one after the other.
+ghost use Rattle.std.specs.Iterator.{YieldsFirst, item_count};
+ghost use Rattle.pages.specs.Pages.{pages_meant};
 
-// Pages in a message: its octets, the place of the next page, and how many are left.
-#[derive(Clone, Copy)]
-pub struct PageView<'a> {
-    pub octets: &'a [u8],
-    pub at: usize,
-    pub left: usize,
-}
+use crate::page::{Page, page_at};
 
+// Whole elements of a message, each 84 octets, or a slice of pages. No Entries: pages have one width, so that
+// those of a message are a slice of arrays, and only an entry needs a reader.
 #[derive(Clone, Copy)]
 pub enum Pages<'a> {
-    Read(PageView<'a>),
+    Read(&'a [[u8; 84]]),
     Given(&'a [Page]),
+}
+
+impl Iterator for Pages<'_> {
+    type Item = Page;
+
+    ghost next_gives = { YieldsFirst pages_meant };
+
+    ghost remaining = { item_count pages_meant };
+
+    fn next(&mut self) -> Option<Page> {
+        match self {
+            Pages::Read(elements) => {
+                let (first, others) = elements.split_first()?;
+                *elements = others;
+                Some(page_at(first, 1))
+            }
+            Pages::Given(pages) => {
+                let (first, others) = pages.split_first()?;
+                *pages = others;
+                Some(*first)
+            }
+        }
+    }
 }

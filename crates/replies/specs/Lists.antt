@@ -14,7 +14,11 @@ use Rattle.naming.specs.declared.naming.Naming.{Naming}
 use Rattle.naming.specs.declared.naming.Naming.TheVariants as naming
 use Rattle.table.specs.declared.outcome.Outcome.{Outcome}
 
--- replies name cells by LAC and CI
+-- a cell is named by LAC and CI
+abbrev pub identity_of : Cell → CellIdentity
+identity_of c = LacCi c.identity.lac c.identity.ci
+
+-- replies name cells so
 abbrev pub identity_at : List Cell → ℕ → CellIdentity
 identity_at cs k = LacCi (identities cs k).lac (identities cs k).ci
 

@@ -1,9 +1,11 @@
-// The entry that an outcome has in a list of the reply, if it has one. Cells are named by LAC and CI.
+// The entry that an outcome has in a list of the reply, if it has one. Cells are named by LAC and CI. Three
+// impls: each makes another entry of another part of the outcome.
 ghost use Rattle.std.specs.Prelude.{◌≡◌, List, Option as Maybe};
 ghost use Rattle.cells.specs.declared.cell.Cell.{Cell as Served};
 ghost use Rattle.table.specs.declared.outcome.Outcome.{Outcome as Comes};
 ghost use Rattle.replies.specs.Lists.{begun_entry, completed_entry, count_field, failed_entry, identity_at, info_field, whom_in};
 
+use crate::identity::identity_of;
 use cells::cell::Cell;
 use lists::cell::CellIdentity;
 use lists::kinds::{CellEntry, CompletedEntry, FailedEntry, Info};
@@ -17,18 +19,18 @@ pub trait OutcomeEntry: Sized {
         ensures { result ≡ entry cells.now outcome };
 }
 
-// LAC and CI of a cell; past the list, zeros.
+// LAC and CI of a cell. Zeros past the list: no naming names a cell there, so that an Option would only be
+// unwrapped.
 fn identity_at(cells: &[Cell], cell: usize) -> CellIdentity
     ensures { result ≡ identity_at cells.now cell }
 {
-    if cell >= cells.len() {
-        return CellIdentity::LacCi(0, 0);
-    }
-    let identity = cells[cell].identity;
-    CellIdentity::LacCi(identity.lac, identity.ci)
+    cells
+        .get(cell)
+        .map_or(CellIdentity::LacCi(0, 0), |found| identity_of(found))
 }
 
-// A cell by its identity, or an entry that names none as it was given.
+// A cell by its identity, or an entry that names none as it was given. No From: the cells stand beside what
+// is told.
 fn whom_in(cells: &[Cell], whom: Naming) -> CellIdentity
     ensures { result ≡ whom_in cells.now whom }
 {
@@ -38,20 +40,14 @@ fn whom_in(cells: &[Cell], whom: Naming) -> CellIdentity
     }
 }
 
-// A count as its two octets can say it.
-fn count_field(count: u64) -> u16
-    ensures { result ≡ count_field count }
+// A count as its two octets can say it, and whether they could.
+fn counted(count: u64) -> (u16, Info)
+    ensures field { result.0 ≡ count_field count }
+    ensures info { result.1 ≡ info_field count }
 {
-    if count > 65535 { 65535 } else { count as u16 }
-}
-
-fn info_field(count: u64) -> Info
-    ensures { result ≡ info_field count }
-{
-    if count > 65535 {
-        Info::Overflow
-    } else {
-        Info::Exact
+    match u16::try_from(count) {
+        Ok(exact) => (exact, Info::Exact),
+        Err(_) => (u16::MAX, Info::Overflow),
     }
 }
 
@@ -60,12 +56,8 @@ impl OutcomeEntry for CellEntry {
     ghost entry = { begun_entry };
 
     fn of(cells: &[Cell], outcome: Outcome) -> Option<CellEntry> {
-        match outcome.cause {
-            Some(_) => None,
-            None => Some(CellEntry {
-                cell: whom_in(cells, outcome.whom),
-            }),
-        }
+        let cell = whom_in(cells, outcome.whom);
+        outcome.cause.is_none().then_some(CellEntry { cell })
     }
 }
 
@@ -74,14 +66,12 @@ impl OutcomeEntry for CompletedEntry {
     ghost entry = { completed_entry };
 
     fn of(cells: &[Cell], outcome: Outcome) -> Option<CompletedEntry> {
-        match outcome.ended {
-            Some(count) => Some(CompletedEntry {
-                cell: whom_in(cells, outcome.whom),
-                count: count_field(count),
-                info: info_field(count),
-            }),
-            None => None,
-        }
+        let (count, info) = counted(outcome.ended?);
+        Some(CompletedEntry {
+            cell: whom_in(cells, outcome.whom),
+            count,
+            info,
+        })
     }
 }
 
@@ -90,12 +80,10 @@ impl OutcomeEntry for FailedEntry {
     ghost entry = { failed_entry };
 
     fn of(cells: &[Cell], outcome: Outcome) -> Option<FailedEntry> {
-        match outcome.cause {
-            Some(cause) => Some(FailedEntry {
-                cell: whom_in(cells, outcome.whom),
-                cause,
-            }),
-            None => None,
-        }
+        let cause = outcome.cause?;
+        Some(FailedEntry {
+            cell: whom_in(cells, outcome.whom),
+            cause,
+        })
     }
 }

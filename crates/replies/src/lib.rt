@@ -3,4 +3,5 @@
 
 mod collecting;
 mod entries;
+pub mod identity;
 pub mod work;

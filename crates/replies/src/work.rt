@@ -1,22 +1,18 @@
 // The memory in which a request is worked out, reserved when it is made, so that no request needs any.
-ghost use Rattle.std.specs.Prelude.{◌≤◌, vec_capacity};
-
+use bounded::list::Bounded;
 use lists::kinds::{CellEntry, CompletedEntry, FailedEntry};
+use naming::list::MOST_NAMINGS;
 use naming::naming::Naming;
 use table::outcome::Outcome;
 
 mod run;
 
+// Three lists, not one of records: each entry of a reply stands in one of them, in order.
 #[derive(Drop)]
 pub struct Work {
-    namings: Vec<Naming>,
-    outcomes: Vec<Outcome>,
-    begun: Vec<CellEntry>,
-    completed: Vec<CompletedEntry>,
-    failed: Vec<FailedEntry>,
-    ghost namings_reserved: { 192 ≤ vec_capacity namings },
-    ghost outcomes_reserved: { 192 ≤ vec_capacity outcomes },
-    ghost begun_reserved: { 192 ≤ vec_capacity begun },
-    ghost completed_reserved: { 192 ≤ vec_capacity completed },
-    ghost failed_reserved: { 192 ≤ vec_capacity failed },
+    namings: Bounded<Naming, MOST_NAMINGS>,
+    outcomes: Bounded<Outcome, MOST_NAMINGS>,
+    begun: Bounded<CellEntry, MOST_NAMINGS>,
+    completed: Bounded<CompletedEntry, MOST_NAMINGS>,
+    failed: Bounded<FailedEntry, MOST_NAMINGS>,
 }

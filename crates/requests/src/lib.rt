@@ -2,5 +2,6 @@
 #![tactic(auto)]
 
 pub mod laws;
+pub mod layouts;
 pub mod reading;
 pub mod request;

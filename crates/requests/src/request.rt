@@ -1,4 +1,5 @@
-// The five requests. Lists and pages stay where they stand in the octets, or in the caller's slices.
+// The five requests. Lists and pages stay where they stand in the octets, or in the caller's slices. No Eq for
+// those with lists or pages: two views of the same entries may lie in different octets.
 use cbsp::channel::Channel;
 use elements::category::Category;
 use lists::cells::Cells;
@@ -37,6 +38,7 @@ pub struct Reset<'a> {
 // KEEP-ALIVE: the code of the time within which the next one comes.
 #[derive(Clone, Copy, PartialEq, Eq, Debug)]
 pub struct KeepAlive {
+    // an octet, no enum: 38 cases would have no more to say than their number in the table of seconds
     pub period: u8,
 }
 

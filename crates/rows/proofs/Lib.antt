@@ -1,4 +1,3 @@
 pub mod Places
-pub mod Searching
 pub mod Linking
 pub mod Turning

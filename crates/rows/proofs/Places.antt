@@ -1,19 +1,7 @@
 -- A search from the front, and what stands at the place that it finds.
-use Rattle.std.proofs.Common.{◌≡◌, ℕ, suc, ◌+◌, ◌<◌, Bool, true, false, cond, List, [], ◌∷◌, length, get_or, drop, Some, None, sym, refl, ap, ◌∙◌, subst, zero-add, arith}
+use Rattle.std.proofs.Common.{◌≡◌, ℕ, suc, ◌+◌, ◌<◌, Bool, true, false, cond, List, [], ◌∷◌, length, get_or, Some, None, sym, refl, ap, ◌∙◌, subst, zero-add, arith}
 use Rattle.std.specs.List.{remove}
-use Rattle.std.proofs.lemmas.List.{at_drop_more}
 use Rattle.rows.specs.Keys.{place_from, place_of, first_of, without}
-
--- one turn of the search at place i
-module _ {X : Type 0} (test : X → Bool) (xs : List X) (i : ℕ) (d : X) (within : i < length xs) (inv : place_from test i (drop i xs) ≡ place_of test xs) where
-  step : cond (test (get_or xs i d)) (Some i) (place_from test (i + 1) (drop (i + 1) xs)) ≡ place_of test xs
-  step = sym (at_drop_more (place_from test i) xs i d within) ∙ inv
-
-  pub here : test (get_or xs i d) ≡ true → Some i ≡ place_of test xs
-  here e = subst (λ (b : Bool). cond b (Some i) (place_from test (i + 1) (drop (i + 1) xs)) ≡ place_of test xs) e step
-
-  pub onward : test (get_or xs i d) ≡ false → place_from test (i + 1) (drop (i + 1) xs) ≡ place_of test xs
-  onward e = subst (λ (b : Bool). cond b (Some i) (place_from test (i + 1) (drop (i + 1) xs)) ≡ place_of test xs) e step
 
 -- what a place that was found is
 pub record Found {X : Type 0} (test : X → Bool) (xs : List X) (d : X) (i : ℕ) : Type 0 where

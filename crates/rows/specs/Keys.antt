@@ -1,5 +1,6 @@
 -- When two messages of a cell are the same, and which of a list that is.
-use Rattle.std.specs.Prelude.{ℕ, ◌+◌, Bool, true, false, cond, ◌&&◌, List, [], ◌∷◌, Some, None, Option, ◌==◌}
+use Rattle.std.specs.Prelude.{ℕ, Bool, true, false, cond, ◌&&◌, List, [], ◌∷◌, Option, ◌==◌}
+use Rattle.std.specs.List.{find, list_any, position_from}
 use Rattle.cbsp.specs.declared.channel.Channel.{Channel}
 use Rattle.cbsp.specs.declared.channel.Channel.TheVariants.{Basic, Extended}
 use Rattle.cbsp.specs.Serials.{serial_code}
@@ -21,16 +22,14 @@ is_same k r = same_channel r.channel k.channel && r.identifier == k.identifier &
 
 -- the place of the first that passes, where the list begins at place n
 abbrev pub place_from : {X : Type 0} → (X → Bool) → ℕ → List X → Option ℕ
-place_from test n [] = None
-place_from test n (x ∷ xs) = cond (test x) (Some n) (place_from test (n + 1) xs)
+place_from test n xs = position_from test n xs
 
 abbrev pub place_of : {X : Type 0} → (X → Bool) → List X → Option ℕ
 place_of test xs = place_from test 0 xs
 
 -- the first that passes
 abbrev pub first_of : {X : Type 0} → (X → Bool) → List X → Option X
-first_of test [] = None
-first_of test (x ∷ xs) = cond (test x) (Some x) (first_of test xs)
+first_of test xs = find test xs
 
 -- the list without the first that passes
 abbrev pub without : {X : Type 0} → (X → Bool) → List X → List X
@@ -39,5 +38,4 @@ without test (x ∷ xs) = cond (test x) xs (x ∷ without test xs)
 
 -- one of them passes
 abbrev pub any_of : {X : Type 0} → (X → Bool) → List X → Bool
-any_of test [] = false
-any_of test (x ∷ xs) = cond (test x) true (any_of test xs)
+any_of test xs = list_any test xs

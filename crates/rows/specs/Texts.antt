@@ -1,5 +1,5 @@
 -- What a content says.
-use Rattle.std.specs.Prelude.{ℕ, List, [], vec_items, slice_index_or}
+use Rattle.std.specs.Prelude.{ℕ, List, [], slice_index_or}
 use Rattle.site.specs.declared.message.Page.{Page}
 use Rattle.site.specs.Messages.{Aired}
 use Rattle.rows.specs.declared.row.Row.{Row}
@@ -11,7 +11,7 @@ pub record Text : Type 0 where
   pub pages : List Page
 
 abbrev pub text_of : Content → Text
-text_of c = record { coding = c.coding; pages = vec_items c.pages }
+text_of c = record { coding = c.coding; pages = c.pages }
 
 -- what a content says before it is first filled
 abbrev pub no_text : Text

@@ -6,7 +6,7 @@ use crate::row::Row;
 use cbsp::channel::Channel;
 use cbsp::serial::serial_code;
 
-#[derive(Clone, Copy)]
+#[derive(Clone, Copy, PartialEq, Eq, Debug)]
 pub struct Key {
     pub channel: Channel,
     pub identifier: u16,
@@ -15,6 +15,7 @@ pub struct Key {
 }
 
 impl Key {
+    // Three arguments, no struct of them: a row, a request and what is asked each have them among others.
     pub fn new(channel: Channel, identifier: u16, serial: u16) -> Key
         ensures { result ≡ key_of channel identifier serial }
     {
@@ -29,9 +30,16 @@ impl Key {
     pub fn is_of(self, row: &Row) -> bool
         ensures { result ≡ is_same self row.now }
     {
-        row.channel == self.channel
-            && row.identifier == self.identifier
-            && serial_code(row.serial) == self.code
+        Key::from(row) == self
+    }
+}
+
+// The key that a message has.
+impl From<&Row> for Key {
+    ghost from_gives = { λ row key. key ≡ key_of row.now.channel row.now.identifier row.now.serial };
+
+    fn from(row: &Row) -> Key {
+        Key::new(row.channel, row.identifier, row.serial)
     }
 }
 
@@ -40,22 +48,12 @@ pub fn place_of(rows: &[Row], key: Key) -> Option<usize>
     ensures place { result ≡ place_of (is_same key) rows.now }
     ensures within { IfSome result (λ p. p < length rows.now) }
 {
-    for (i, row) in rows.iter().enumerate() {
-        if key.is_of(row) {
-            return Some(i);
-        }
-    }
-    None
+    rows.iter().position(|row| key.is_of(row))
 }
 
 // The first message that is the same.
 pub fn first_of(rows: &[Row], key: Key) -> Option<Row>
     ensures { result ≡ first_of (is_same key) rows.now }
 {
-    for row in rows {
-        if key.is_of(row) {
-            return Some(*row);
-        }
-    }
-    None
+    rows.iter().find(|row| key.is_of(row)).copied()
 }

@@ -18,27 +18,27 @@ fn is_due(row: &Row) -> bool
     row.wait == 0 && (row.requested == 0 || row.count < row.requested as u64)
 }
 
-// What goes out for a message.
+// What goes out for a message. Past the contents a message without pages: no row of a table has such a slot,
+// so that an Option would only be unwrapped. No From: it is made of a message and the contents.
 fn message_of<'a>(row: &Row, contents: &'a [Content]) -> CbsMessage<'a>
     ensures { aired result ≡ aired_for (map text_of contents.now) row.now }
 {
-    let slot = row.slot as usize;
-    if slot >= contents.len() {
-        return CbsMessage {
-            serial: row.serial,
-            identifier: row.identifier,
-            coding: 0,
-            pages: &[],
-        };
-    }
-    CbsMessage {
+    let mut message = CbsMessage {
         serial: row.serial,
         identifier: row.identifier,
-        coding: contents[slot].coding(),
-        pages: contents[slot].pages(),
+        coding: 0,
+        pages: &[],
+    };
+    if let Some(content) = contents.get(usize::from(row.slot)) {
+        message.coding = content.coding();
+        message.pages = content.pages();
     }
+    message
 }
 
+// Each broadcast adds one to a count, so that no bound on it holds of every message: only who calls knows how
+// many periods came before. The contents and the site stay two arguments: the ones are read, the other is
+// changed.
 fn offer<S: Site>(row: &mut Row, cell: usize, contents: &[Content], site: &mut S)
     requires { row.old.count < 2 ^ 63 }
     ensures { Turn S.Site.model S.Site.steps (map text_of contents.now) cell row.old site.old row.new site.new }
@@ -79,7 +79,7 @@ pub fn serve_all<S: Site>(cells: &mut [Rows], contents: &[Content], site: &mut S
     requires { AllByRecursion (λ rs. AllByRecursion (λ r. r.count < 2 ^ 63) rs) (map rows_of cells.old) }
     ensures { Served S.Site.model S.Site.steps (map text_of contents.now) (map rows_of cells.old) site.old (map rows_of cells.new) site.new }
 {
-    for cell in 0..cells.len() {
-        cells[cell].serve(cell, contents, site);
+    for (cell, rows) in cells.iter_mut().enumerate() {
+        rows.serve(cell, contents, site);
     }
 }

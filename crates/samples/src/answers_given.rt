@@ -2,7 +2,7 @@
 use crate::entries_given::{
     COUNT_BY_CI, COUNTS, FAILURES, FAILURES_OF_ALL_FORMS, ONE_CI, TWO_CELLS,
 };
-use crate::line::show_answer;
+use crate::line::show;
 use answers::answer::{
     Answer, Done, ErrorIndication, Failure, KillComplete, KillFailure, ResetComplete, ResetFailure,
     Restart, StatusComplete, StatusFailure, WriteReplaceComplete, WriteReplaceFailure,
@@ -13,6 +13,7 @@ use elements::cause::Cause;
 use elements::recovery::Recovery;
 use lists::cells::Cells;
 use lists::entries::Entries;
+use messages::message::Message;
 use std::io;
 
 pub fn show_write_answers(rt: &impl Print) -> io::Result<()> {
@@ -26,10 +27,10 @@ pub fn show_write_answers(rt: &impl Print) -> io::Result<()> {
             channel: Some(Channel::Basic),
         },
     };
-    show_answer(
+    show(
         rt,
         "write-replace complete",
-        Answer::WriteReplaceComplete(begun),
+        Message::Answer(Answer::WriteReplaceComplete(begun)),
     )?;
     let replaced = WriteReplaceFailure {
         identifier: 0x0032,
@@ -42,10 +43,10 @@ pub fn show_write_answers(rt: &impl Print) -> io::Result<()> {
             channel: Some(Channel::Extended),
         },
     };
-    show_answer(
+    show(
         rt,
         "write-replace failure",
-        Answer::WriteReplaceFailure(replaced),
+        Message::Answer(Answer::WriteReplaceFailure(replaced)),
     )
 }
 
@@ -59,7 +60,11 @@ pub fn show_kill_answers(rt: &impl Print) -> io::Result<()> {
             channel: Some(Channel::Basic),
         },
     };
-    show_answer(rt, "kill complete", Answer::KillComplete(ended))?;
+    show(
+        rt,
+        "kill complete",
+        Message::Answer(Answer::KillComplete(ended)),
+    )?;
     let failed = KillFailure {
         identifier: 0x0032,
         serial: 0x1010,
@@ -70,7 +75,11 @@ pub fn show_kill_answers(rt: &impl Print) -> io::Result<()> {
             channel: None,
         },
     };
-    show_answer(rt, "kill failure", Answer::KillFailure(failed))
+    show(
+        rt,
+        "kill failure",
+        Message::Answer(Answer::KillFailure(failed)),
+    )
 }
 
 pub fn show_status_answers(rt: &impl Print) -> io::Result<()> {
@@ -80,10 +89,10 @@ pub fn show_status_answers(rt: &impl Print) -> io::Result<()> {
         completed: Entries::Given(&COUNT_BY_CI),
         channel: Channel::Extended,
     };
-    show_answer(
+    show(
         rt,
         "message status query complete",
-        Answer::MessageStatusQueryComplete(counted),
+        Message::Answer(Answer::MessageStatusQueryComplete(counted)),
     )?;
     let missed = StatusFailure {
         identifier: 0x0032,
@@ -92,10 +101,10 @@ pub fn show_status_answers(rt: &impl Print) -> io::Result<()> {
         channel: Channel::Basic,
         completed: Some(Entries::Given(&COUNTS)),
     };
-    show_answer(
+    show(
         rt,
         "message status query failure",
-        Answer::MessageStatusQueryFailure(missed),
+        Message::Answer(Answer::MessageStatusQueryFailure(missed)),
     )
 }
 
@@ -103,16 +112,20 @@ fn show_reset_answers(rt: &impl Print) -> io::Result<()> {
     let emptied = ResetComplete {
         cells: Cells::Named(Entries::Given(&TWO_CELLS)),
     };
-    show_answer(rt, "reset complete", Answer::ResetComplete(emptied))?;
+    show(
+        rt,
+        "reset complete",
+        Message::Answer(Answer::ResetComplete(emptied)),
+    )?;
     let partly = ResetFailure {
         failures: Entries::Given(&FAILURES),
         cells: Some(Cells::Named(Entries::Given(&ONE_CI))),
     };
-    show_answer(rt, "reset failure", Answer::ResetFailure(partly))
-}
-
-fn error<'a>(message: ErrorIndication) -> Answer<'a> {
-    Answer::ErrorIndication(message)
+    show(
+        rt,
+        "reset failure",
+        Message::Answer(Answer::ResetFailure(partly)),
+    )
 }
 
 fn show_errors(rt: &impl Print) -> io::Result<()> {
@@ -123,7 +136,11 @@ fn show_errors(rt: &impl Print) -> io::Result<()> {
         old_serial: None,
         channel: None,
     };
-    show_answer(rt, "error indication", error(bare))?;
+    show(
+        rt,
+        "error indication",
+        Message::Answer(Answer::ErrorIndication(bare)),
+    )?;
     let full = ErrorIndication {
         cause: Cause::BscMemoryExceeded,
         identifier: Some(0x0032),
@@ -131,7 +148,11 @@ fn show_errors(rt: &impl Print) -> io::Result<()> {
         old_serial: Some(0x100f),
         channel: Some(Channel::Extended),
     };
-    show_answer(rt, "error indication full", error(full))
+    show(
+        rt,
+        "error indication full",
+        Message::Answer(Answer::ErrorIndication(full)),
+    )
 }
 
 pub fn show_indications(rt: &impl Print) -> io::Result<()> {
@@ -141,12 +162,16 @@ pub fn show_indications(rt: &impl Print) -> io::Result<()> {
         broadcast: BroadcastType::Ordinary,
         recovery: Recovery::Lost,
     };
-    show_answer(rt, "restart", Answer::Restart(back))?;
+    show(rt, "restart", Message::Answer(Answer::Restart(back)))?;
     let lost = Failure {
         failures: Entries::Given(&FAILURES),
         broadcast: BroadcastType::Emergency,
     };
-    show_answer(rt, "failure", Answer::Failure(lost))?;
+    show(rt, "failure", Message::Answer(Answer::Failure(lost)))?;
     show_errors(rt)?;
-    show_answer(rt, "keep-alive complete", Answer::KeepAliveComplete)
+    show(
+        rt,
+        "keep-alive complete",
+        Message::Answer(Answer::KeepAliveComplete),
+    )
 }

@@ -2,6 +2,7 @@
 use elements::cause::Cause;
 use lists::cell::CellIdentity;
 use lists::kinds::{CellEntry, CompletedEntry, FailedEntry, Info};
+use std::array;
 
 pub const TWO_CELLS: [CellEntry; 2] = [
     CellEntry {
@@ -81,11 +82,7 @@ pub const FAILURES_OF_ALL_FORMS: [FailedEntry; 4] = [
 
 // As many cells as a controller has at most, in one location area.
 pub fn many_cells() -> [CellEntry; 64] {
-    let mut cells = [CellEntry {
-        cell: CellIdentity::All,
-    }; 64];
-    for (entry, ci) in cells.iter_mut().zip(1u16..65) {
-        entry.cell = CellIdentity::LacCi(0x0101, ci);
-    }
-    cells
+    array::from_fn(|number| CellEntry {
+        cell: CellIdentity::LacCi(0x0101, number as u16 + 1),
+    })
 }

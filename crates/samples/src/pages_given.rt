@@ -1,12 +1,14 @@
 // Pages with text of eight bits a character, and filling.
 use pages::page::{PAGE_CONTENT, Page};
+use std::array;
 
 const FILLING: u8 = 0x2b;
 
+// A site's page, of which airtime makes some, is another type, which doesn't say how many octets are in use.
 pub fn page(text: &[u8]) -> Page {
     let used = text.len().min(PAGE_CONTENT);
     let mut content = [FILLING; 82];
-    content[0..used].copy_from_slice(&text[0..used]);
+    content[..used].copy_from_slice(&text[..used]);
     Page {
         used: used as u8,
         content,
@@ -15,9 +17,5 @@ pub fn page(text: &[u8]) -> Page {
 
 // As many pages as a message has at most, all octets of each in use.
 pub fn many_pages() -> [Page; 15] {
-    let mut pages = [page(&[]); 15];
-    for (given, letter) in pages.iter_mut().zip(b'a'..b'p') {
-        *given = page(&[letter; 82]);
-    }
-    pages
+    array::from_fn(|number| page(&[b'a' + number as u8; 82]))
 }

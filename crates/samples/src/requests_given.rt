@@ -1,11 +1,12 @@
 // The five requests.
 use crate::entries_given::{ONE_CI, TWO_AREAS, TWO_CELLS, many_cells};
-use crate::line::show_request;
+use crate::line::show;
 use crate::pages_given::{many_pages, page};
 use cbsp::channel::Channel;
 use elements::category::Category;
 use lists::cells::Cells;
 use lists::entries::Entries;
+use messages::message::Message;
 use pages::page::Page;
 use pages::pages::Pages;
 use requests::request::{KeepAlive, Reference, Request, Reset, WriteReplace};
@@ -24,7 +25,11 @@ fn show_short(rt: &impl Print, pages: &[Page]) -> io::Result<()> {
         coding: 0x44,
         pages: Pages::Given(pages),
     };
-    show_request(rt, "write-replace", Request::WriteReplace(message))
+    show(
+        rt,
+        "write-replace",
+        Message::Request(Request::WriteReplace(message)),
+    )
 }
 
 fn show_long(rt: &impl Print) -> io::Result<()> {
@@ -42,7 +47,11 @@ fn show_long(rt: &impl Print) -> io::Result<()> {
         coding: 0x44,
         pages: Pages::Given(&pages),
     };
-    show_request(rt, "write-replace long", Request::WriteReplace(message))
+    show(
+        rt,
+        "write-replace long",
+        Message::Request(Request::WriteReplace(message)),
+    )
 }
 
 fn show_reference(rt: &impl Print) -> io::Result<()> {
@@ -52,17 +61,17 @@ fn show_reference(rt: &impl Print) -> io::Result<()> {
         cells: Cells::Named(Entries::Given(&ONE_CI)),
         channel: Channel::Basic,
     };
-    show_request(rt, "kill", Request::Kill(kill))?;
+    show(rt, "kill", Message::Request(Request::Kill(kill)))?;
     let query = Reference {
         identifier: 0x0433,
         serial: 0x5678,
         cells: Cells::Named(Entries::Given(&TWO_AREAS)),
         channel: Channel::Extended,
     };
-    show_request(
+    show(
         rt,
         "message status query",
-        Request::MessageStatusQuery(query),
+        Message::Request(Request::MessageStatusQuery(query)),
     )
 }
 
@@ -71,14 +80,14 @@ pub fn show_requests(rt: &impl Print) -> io::Result<()> {
     show_long(rt)?;
     show_reference(rt)?;
     let all = Reset { cells: Cells::All };
-    show_request(rt, "reset", Request::Reset(all))?;
+    show(rt, "reset", Message::Request(Request::Reset(all)))?;
     let two = Reset {
         cells: Cells::Named(Entries::Given(&TWO_CELLS)),
     };
-    show_request(rt, "reset two", Request::Reset(two))?;
-    show_request(
+    show(rt, "reset two", Message::Request(Request::Reset(two)))?;
+    show(
         rt,
         "keep-alive",
-        Request::KeepAlive(KeepAlive { period: 38 }),
+        Message::Request(Request::KeepAlive(KeepAlive { period: 38 })),
     )
 }

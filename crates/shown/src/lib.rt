@@ -3,6 +3,6 @@
 
 pub mod content;
 pub mod element_lines;
+pub mod lines;
 pub mod list_lines;
-pub mod names;
 pub mod octets;

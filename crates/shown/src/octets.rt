@@ -1,21 +1,46 @@
 // Octets in hexadecimal.
 use std::fmt;
 
+// Octets, each between two texts.
 #[derive(Clone, Copy)]
-pub struct Hex<'a>(pub &'a [u8]);
+struct Each<'a> {
+    before: &'static str,
+    octets: &'a [u8],
+    behind: &'static str,
+}
 
-impl fmt::Display for Hex<'_> {
+impl fmt::Display for Each<'_> {
     fn fmt<W: fmt::Write>(&self, f: &mut fmt::Formatter<W>) -> fmt::Result {
-        let mut gap = "";
-        for octet in self.0.iter() {
-            write!(f, "{gap}{octet:02x}")?;
-            gap = " ";
+        for octet in self.octets {
+            write!(f, "{}{octet:02x}{}", self.before, self.behind)?;
         }
         Ok(())
     }
 }
 
-// The octets around a place, with the octet there in brackets; empty brackets where the octets end.
+// Octets, each with a space before it.
+fn spaced(octets: &[u8]) -> Each<'_> {
+    Each {
+        before: " ",
+        octets,
+        behind: "",
+    }
+}
+
+#[derive(Clone, Copy)]
+pub struct Hex<'a>(pub &'a [u8]);
+
+impl fmt::Display for Hex<'_> {
+    fn fmt<W: fmt::Write>(&self, f: &mut fmt::Formatter<W>) -> fmt::Result {
+        match self.0.split_first() {
+            Some((first, others)) => write!(f, "{first:02x}{}", spaced(others)),
+            None => Ok(()),
+        }
+    }
+}
+
+// The octets around a place, with the octet there in brackets; empty brackets where the octets end. The place comes
+// from a fault, and may lie behind the octets.
 #[derive(Clone, Copy)]
 pub struct Marked<'a> {
     pub octets: &'a [u8],
@@ -25,32 +50,20 @@ pub struct Marked<'a> {
 // How many octets are shown on each side of a marked one.
 const AROUND: usize = 12;
 
-impl<'a> Marked<'a> {
-    fn before(&self) -> &'a [u8] {
-        let end = self.place.min(self.octets.len());
-        let start = end.saturating_sub(AROUND);
-        &self.octets[start..end]
-    }
-
-    fn after(&self) -> &'a [u8] {
-        let start = self.place.saturating_add(1).min(self.octets.len());
-        let end = start.saturating_add(AROUND).min(self.octets.len());
-        &self.octets[start..end]
-    }
-}
-
 impl fmt::Display for Marked<'_> {
     fn fmt<W: fmt::Write>(&self, f: &mut fmt::Formatter<W>) -> fmt::Result {
-        for octet in self.before().iter() {
-            write!(f, "{octet:02x} ")?;
+        let (before, rest) = self.octets.split_at(self.place.min(self.octets.len()));
+        let near = Each {
+            before: "",
+            octets: &before[before.len().saturating_sub(AROUND)..],
+            behind: " ",
+        };
+        match rest.split_first() {
+            Some((octet, behind)) => {
+                let next = spaced(&behind[..behind.len().min(AROUND)]);
+                write!(f, "{near}[{octet:02x}]{next}")
+            }
+            None => write!(f, "{near}[]"),
         }
-        match self.octets.get(self.place) {
-            Some(octet) => write!(f, "[{octet:02x}]")?,
-            None => f.write_str("[]")?,
-        }
-        for octet in self.after().iter() {
-            write!(f, " {octet:02x}")?;
-        }
-        Ok(())
     }
 }

@@ -7,14 +7,13 @@ module _ {S : Type 0} (go : S → Event → S → Type 0) where
   unfolding Chain
   chain_none s = refl
 
-  -- one call more at the end
-  pub chain_more : (s u t : S) (es : List Event) (e : Event) → Chain go s es u → go u e t → Chain go s (es ++ e ∷ []) t
-  unfolding Chain
-  chain_more s u t [] e c g = (t, subst (λ (x : S). go x e t) c g, refl)
-  chain_more s u t (d ∷ es) e c g = (c.0, c.1, chain_more c.0 u t es e c.2 g)
-
   -- one chain behind another
   pub chain_join : (s u t : S) (ds es : List Event) → Chain go s ds u → Chain go u es t → Chain go s (ds ++ es) t
   unfolding Chain
   chain_join s u t [] es c g = subst (λ (x : S). Chain go x es t) c g
   chain_join s u t (d ∷ ds) es c g = (c.0, c.1, chain_join c.0 u t ds es c.2 g)
+
+  -- one call more at the end
+  pub chain_more : (s u t : S) (es : List Event) (e : Event) → Chain go s es u → go u e t → Chain go s (es ++ e ∷ []) t
+  unfolding Chain
+  chain_more s u t es e c g = chain_join s u t es (e ∷ []) c (t, g, refl)

@@ -1,4 +1,3 @@
-pub mod Arrays
 pub mod Chains
 pub mod Offering
 pub mod Counting

@@ -1,25 +1,34 @@
 -- What a site shows by the states of its cells, and how the calls on them move that.
-use Rattle.std.specs.Prelude.{◌≡◌, ℕ, ◌+◌, ◌^◌, ◌<◌, ◌≤◌, Bool, true, false, cond, ◌≢◌, ◌⊎◌, nat_lt, slice_index, slice_index_or}
+use Rattle.std.specs.Prelude.{◌≡◌, ℕ, ◌+◌, ◌^◌, ◌<◌, ◌≤◌, Bool, true, false, cond, ◌≢◌, ◌⊎◌, nat_lt, slice_index_or}
 use Rattle.std.proofs.Common.{le-ltb}
 use Rattle.cbsp.specs.declared.channel.Channel.{Channel}
 use Rattle.cbsp.specs.declared.channel.Channel.TheVariants.{Basic, Extended}
 use Rattle.site.specs.Model.{Model, Sound}
+use Rattle.site.specs.declared.cell_states.CellState.{CellState}
 use Rattle.site.specs.declared.cell_states.CellStates.{CellStates}
 
 -- x at a cell that a site has, else d
 abbrev pub within : {A : Type 0} → ℕ → A → A → A
 within k x d = cond (nat_lt k 64) x d
 
-abbrev pub open_at : CellStates → ℕ → Bool
-open_at c k = within k (slice_index_or c.«open» k false) false
+-- closed, nothing counted
+abbrev pub idle : CellState
+idle = record { «open» = false; basic = 0; extended = 0 }
 
--- the counts of a channel
-abbrev pub counts : CellStates → Channel → ℕ → ℕ
-counts c Basic k = slice_index c.basic k
-counts c Extended k = slice_index c.extended k
+-- what is kept of a cell
+abbrev pub cell_at : CellStates → ℕ → CellState
+cell_at c k = within k (slice_index_or c.cells k idle) idle
+
+abbrev pub open_at : CellStates → ℕ → Bool
+open_at c k = (cell_at c k).«open»
+
+-- the count on a channel
+abbrev pub count_of : CellState → Channel → ℕ
+count_of s Basic = s.basic
+count_of s Extended = s.extended
 
 abbrev pub count_at : CellStates → ℕ → Channel → ℕ
-count_at c k h = within k (counts c h k) 0
+count_at c k h = count_of (cell_at c k) h
 
 -- what a site shows that gives each cell such a room
 abbrev pub cells_model : ℕ → CellStates → (ℕ → ℕ) → Model
@@ -27,7 +36,7 @@ cells_model capacity c room = record { capacity = capacity; opened = open_at c; 
 
 pub cells_sound : (capacity : ℕ) (c : CellStates) (room : ℕ → ℕ) → 1 ≤ capacity → Sound (cells_model capacity c room)
 cells_sound capacity c room h = record {
-  past = λ k le. let e = le-ltb k 64 le in record { opened = rw e; room = rw e; count = λ h. rw e };
+  past = λ k le. let e = le-ltb k 64 le in record { opened = rw e; room = rw e; count = elim [ Basic ↦ rw e | Extended ↦ rw e ] };
   roomy = h;
 }
 

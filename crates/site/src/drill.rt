@@ -3,16 +3,17 @@ ghost use Rattle.site.specs.Model.{New};
 ghost use Rattle.site.specs.Drill.{drill_model, drill_sound};
 
 use crate::Site;
-use crate::cell_states::{CELLS, CellStates, for_each_cell};
+use crate::cell_states::{CELLS, CellStates};
 use crate::message::CbsMessage;
 use cbsp::channel::Channel;
 
 // The room of each cell when a period starts.
 pub const CAPACITY: u16 = 512;
 
-#[derive(Clone, Copy)]
+#[derive(Clone, Copy, PartialEq, Eq, Debug)]
 pub struct DrillSite {
     cells: CellStates,
+    // not in the states: those are the frame site's too, whose cells have one room together
     rooms: [u16; CELLS],
 }
 
@@ -22,7 +23,7 @@ impl DrillSite {
     {
         DrillSite {
             cells: CellStates::new(),
-            rooms: for_each_cell(0),
+            rooms: [0; CELLS],
         }
     }
 }
@@ -40,8 +41,9 @@ impl Site for DrillSite {
         self.cells.is_open(cell)
     }
 
+    // 0 past the cells: there is no room.
     fn room(&self, cell: usize) -> u16 {
-        if cell < CELLS { self.rooms[cell] } else { 0 }
+        self.rooms.get(cell).copied().unwrap_or(0)
     }
 
     fn count(&self, cell: usize, channel: Channel) -> u64 {
@@ -57,7 +59,7 @@ impl Site for DrillSite {
     }
 
     fn start_period(&mut self) {
-        self.rooms = for_each_cell(CAPACITY);
+        self.rooms = [CAPACITY; CELLS];
     }
 
     fn broadcast(&mut self, cell: usize, channel: Channel, _message: CbsMessage<'_>) -> bool {

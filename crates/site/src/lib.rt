@@ -18,6 +18,9 @@ pub mod drill;
 pub mod message;
 pub mod period;
 
+// Two ghost members, `model` and `steps`, no record of both: most clauses read the model alone. A cell is its
+// number, since a site keeps its cells as it likes, and a channel stands beside it, since most calls on a
+// cell need none.
 pub trait Site {
     // what a site shows: its capacity, and for each cell whether it is open, its room and its counts
     ghost model: { Self → Model };
@@ -53,7 +56,8 @@ pub trait Site {
     fn start_period(&mut self)
         ensures { Goes model steps self.old started self.new };
 
-    // Offers a message; answers whether it was broadcast.
+    // Offers a message; answers whether it was broadcast. A bool: that a cell declines is no error, and the
+    // event that it is says the same yes or no.
     fn broadcast(&mut self, cell: usize, channel: Channel, message: CbsMessage<'_>) -> bool
         ensures { Goes model steps self.old (offered cell channel (aired message.entry) result) self.new };
 }

@@ -6,7 +6,7 @@ use crate::message::CbsMessage;
 use cbsp::channel::Channel;
 
 // A message that is offered on a channel of a cell.
-#[derive(Clone, Copy)]
+#[derive(Clone, Copy, PartialEq, Eq, Debug)]
 pub struct Offer<'a> {
     pub cell: usize,
     pub channel: Channel,
@@ -17,6 +17,7 @@ pub struct Offer<'a> {
 fn offer_all<S: Site>(site: &mut S, offers: &[Offer<'_>]) -> usize
     ensures { Served S.Site.model S.Site.steps site.old offers.now result site.new }
 {
+    // no `filter` and `count`: after a closure that changes the site, a proof knows nothing of it
     let mut done = 0;
     for offer in offers {
         if site.broadcast(offer.cell, offer.channel, offer.message) {

@@ -4,4 +4,3 @@ pub mod Entries
 pub mod Filling
 pub mod Held
 pub mod Making
-pub mod Replacing

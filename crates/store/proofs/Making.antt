@@ -1,10 +1,24 @@
--- A vector that is filled from a slice, element by element.
-use Rattle.std.proofs.Common.{◌≡◌, ℕ, ◌+◌, ◌<◌, ◌≤◌, List, [], ◌∷◌, ◌++◌, map, length, get_or, take, refl}
-use Rattle.std.proofs.lemmas.List.{map_push, take_more, take_all}
+-- A vector that is filled by a closure, item by item.
+use Rattle.std.proofs.Common.{◌≡◌, ℕ, List, [], ◌∷◌, ◌++◌, map, length, take, replicate, refl, ap, ◌∙◌, arith}
+use Rattle.std.proofs.lemmas.List.{take_all}
+use Rattle.std.specs.List.{AppendsResults, FoldsTo}
 
--- one more: the vector's elements are, or mean, f of the first i elements of the slice
-pub filled_more : {Y V : Type 0} (f : Y → V) (vs : List V) (ys : List Y) (i : ℕ) (x : V) (d : Y) → i < length ys → vs ≡ map f (take i ys) → x ≡ f (get_or ys i d) → vs ++ x ∷ [] ≡ map f (take (i + 1) ys)
-filled_more f vs ys i x d lt e q = rw (take_more ys i d lt, map_push f (take i ys) (get_or ys i d), e, q) refl
+module _ {F X V : Type 0} (m : X → V) (v : V) (step : F → X → F → Type 0) (each : (p : F) (x : X) (q : F) → step p x q → m x ≡ v) where
+  all_same : (f : F) (xs : List X) (last : F) → FoldsTo step f xs last → map m xs ≡ replicate (length xs) v
+  all_same f [] last h = refl
+  all_same f (x ∷ xs) last h =
+      let here : m x ≡ v = each f x h.0 h.1 in
+      let more : map m xs ≡ replicate (length xs) v = all_same h.0 xs last h.2 in
+      cc
 
-pub filled_all : {Y V : Type 0} (f : Y → V) (vs : List V) (ys : List Y) (i : ℕ) → length ys ≤ i → vs ≡ map f (take i ys) → vs ≡ map f ys
-filled_all f vs ys i le e = rw (take_all i ys le) at e
+  -- n items were put into an empty vector, and each means the same
+  pub filled : (f : F) (was is : List X) (k n : ℕ) → was ≡ [] → AppendsResults step (take k was) is f → length is ≡ n → map m is ≡ replicate n v
+  filled f [] is k n e h l =
+      let same = all_same f h.0 h.1 h.3 in
+      let own : is ≡ h.0 = h.2 ∙ ap (λ (ys : List X). ys ++ h.0) (take_all k [] (omega arith)) in
+      rw (← l, own) same
+  filled f (x ∷ xs) is k n e h l = absurd (omega (arith, ap length e))
+
+pub map_same : {X V : Type 0} (v : V) (xs : List X) → map (λ _. v) xs ≡ replicate (length xs) v
+map_same v [] = refl
+map_same v (x ∷ xs) = cc (map_same v xs)

@@ -1,13 +1,14 @@
 -- What a store holds.
 use Rattle.std.specs.Prelude.{List, map, vec_items}
 use Rattle.cells.specs.declared.cell.Cell.{Cell}
+use Rattle.cells.specs.Held.{cells_of}
 use Rattle.rows.specs.declared.row.Row.{Row}
 use Rattle.rows.specs.Held.{rows_of}
 use Rattle.rows.specs.Texts.{Text, text_of}
 use Rattle.store.specs.declared.store.Store.{Store}
 
 abbrev pub cells_held : Store → List Cell
-cells_held s = vec_items s.cells
+cells_held s = cells_of s.cells
 
 -- the messages of each cell
 abbrev pub rows_held : Store → List (List Row)

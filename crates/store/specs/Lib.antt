@@ -1,2 +1,3 @@
 pub mod Entries
 pub mod Held
+pub mod Answered

@@ -1,9 +1,9 @@
 // The cells of a table with their messages, the contents that these broadcast, and the memory in which requests are worked out.
-ghost use Rattle.std.specs.Prelude.{◌≡◌, ◌<◌, ◌≤◌, map, vec_len};
-ghost use Rattle.cells.specs.File.{Distinct};
+ghost use Rattle.std.specs.Prelude.{◌≡◌, map, length, vec_len};
+ghost use Rattle.cells.specs.Held.{cells_of};
 ghost use Rattle.store.specs.Entries.{list_entry};
 
-use cells::cell::Cell;
+use cells::list::CellList;
 use lists::kinds::CellEntry;
 use replies::work::Work;
 use rows::content::Content;
@@ -15,17 +15,15 @@ mod handling;
 mod making;
 mod serving;
 
-// All memory is reserved when it is made. `entries` are the cells as a Cell List names them.
+// All memory is reserved when it is made. `entries` are the cells as a Cell List names them. Three lists of one length,
+// not one of records, since cells, entries and rows are each lent as a slice.
 #[derive(Drop)]
 pub struct Store {
-    cells: Vec<Cell>,
+    cells: CellList,
     entries: Vec<CellEntry>,
     rows: Vec<Rows>,
     contents: Vec<Content>,
     work: Work,
-    ghost some: { 0 < vec_len cells },
-    ghost few: { vec_len cells ≤ 64 },
-    ghost distinct: { Distinct cells.items },
-    ghost named: { entries.items ≡ map list_entry cells.items },
-    ghost known: { vec_len rows ≡ vec_len cells },
+    ghost named: { entries.items ≡ map list_entry (cells_of cells) },
+    ghost known: { vec_len rows ≡ length (cells_of cells) },
 }

@@ -68,3 +68,14 @@ fn every_cell_is_reset(rt: HostRuntime) -> Result<(), Fail> {
     assert_eq!(rt; store.entries().len(), 2);
     Ok(())
 }
+
+// A list and its copy hold the same cells.
+#[test]
+fn a_copy_has_the_same_cells(rt: HostRuntime) -> Result<(), Fail> {
+    let heap = rt.alloc();
+    let list = CellList::new(heap)?;
+    let copy = list.copy(heap)?;
+    assert_eq!(rt; copy.cells().len(), 2);
+    assert!(rt; copy.cells() == list.cells());
+    Ok(())
+}

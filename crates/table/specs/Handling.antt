@@ -7,6 +7,7 @@ use Rattle.naming.specs.declared.naming.Naming.{Naming}
 use Rattle.naming.specs.declared.naming.Naming.TheVariants as naming
 use Rattle.rows.specs.declared.row.Row.{Row}
 use Rattle.table.specs.declared.outcome.Outcome.{Outcome}
+use Rattle.table.specs.Acts.{Acts}
 use Rattle.table.specs.Outcomes.{no_cell}
 use Rattle.table.specs.Settings.{Setting, setting}
 
@@ -24,21 +25,21 @@ abbrev pub stage : {R : Type 0} → R → List (List Row) → List Outcome → S
 stage q rows out = record { request = q; rows = rows; out = out }
 
 -- a kind of request, by what it does in one cell
-module _ {R : Type 0} (answer : R → Setting → Outcome) (leaves : R → Setting → List (List Row)) (becomes : R → Setting → R) (cells : List Cell) (opened : ℕ → Bool) where
+module _ {R : Type 0} (acts : Acts R) (cells : List Cell) (opened : ℕ → Bool) where
   abbrev pub setting_at : List (List Row) → ℕ → Setting
   setting_at rows k = setting rows k (capability_at cells k) (opened k)
 
   -- an entry that names no cell fails, and does nothing
   abbrev pub comes_of : R → List (List Row) → Naming → Outcome
-  comes_of q rows (naming.Cell k) = answer q (setting_at rows k)
+  comes_of q rows (naming.Cell k) = acts.answer q (setting_at rows k)
   comes_of q rows (naming.NoCell e) = no_cell e
 
   abbrev pub rows_on : R → List (List Row) → Naming → List (List Row)
-  rows_on q rows (naming.Cell k) = leaves q (setting_at rows k)
+  rows_on q rows (naming.Cell k) = acts.leaves q (setting_at rows k)
   rows_on q rows (naming.NoCell e) = rows
 
   abbrev pub request_on : R → List (List Row) → Naming → R
-  request_on q rows (naming.Cell k) = becomes q (setting_at rows k)
+  request_on q rows (naming.Cell k) = acts.becomes q (setting_at rows k)
   request_on q rows (naming.NoCell e) = q
 
   abbrev pub step_on : Stage R → Naming → Stage R

@@ -1,6 +1,8 @@
 pub mod Outcomes
 pub mod Pool
 pub mod Settings
+pub mod Acts
+pub mod AtCell
 pub mod References
 pub mod Write
 pub mod Handling

@@ -1,5 +1,6 @@
 -- Which contents are in use, told from the messages alone: a slot is free when no cell has a message with it.
-use Rattle.std.specs.Prelude.{ℕ, zero, suc, ◌+◌, Bool, cond, List, Some, None, Option, ◌==◌}
+use Rattle.std.specs.Prelude.{ℕ, Bool, not, List, Option, ◌==◌}
+use Rattle.std.specs.List.{find, range_with_len}
 use Rattle.rows.specs.declared.row.Row.{Row}
 use Rattle.rows.specs.Keys.{any_of}
 
@@ -14,11 +15,6 @@ holds s rs = any_of (has_slot s) rs
 abbrev pub is_used : List (List Row) → ℕ → Bool
 is_used ts s = any_of (holds s) ts
 
--- the first of n slots from s on that is free
-unfoldable pub free_from : List (List Row) → ℕ → ℕ → Option ℕ
-free_from ts s zero = None
-free_from ts s (suc n) = cond (is_used ts s) (free_from ts (s + 1) n) (Some s)
-
 -- the lowest of the 32 slots that is free
-abbrev pub free_slot : List (List Row) → Option ℕ
-free_slot ts = free_from ts 0 32
+unfoldable pub free_slot : List (List Row) → Option ℕ
+free_slot ts = find (λ s. not (is_used ts s)) (range_with_len 0 32)

@@ -5,6 +5,10 @@ use Rattle.rows.specs.declared.row.Row.{Row}
 use Rattle.rows.specs.declared.key.Key.{Key}
 use Rattle.rows.specs.Keys.{is_same, first_of, without}
 use Rattle.table.specs.declared.outcome.Outcome.{Outcome}
+use Rattle.table.specs.declared.references.Kill.{Kill}
+use Rattle.table.specs.declared.references.Query.{Query}
+use Rattle.table.specs.declared.references.Reset.{Reset}
+use Rattle.table.specs.Acts.{Acts}
 use Rattle.table.specs.Outcomes.{outcome}
 use Rattle.table.specs.Settings.{Setting, here, replaced}
 
@@ -26,3 +30,13 @@ answer_reset s = outcome s.cell None None
 
 abbrev pub emptied : Setting → List (List Row)
 emptied s = replaced s []
+
+-- the three kinds of request
+abbrev pub kill_acts : Acts Kill
+kill_acts = record { answer = λ q s. answer_reference q.key s; leaves = λ q s. killed q.key s; becomes = λ q s. q }
+
+abbrev pub query_acts : Acts Query
+query_acts = record { answer = λ q s. answer_reference q.key s; leaves = λ q s. s.rows; becomes = λ q s. q }
+
+abbrev pub reset_acts : Acts Reset
+reset_acts = record { answer = λ q s. answer_reset s; leaves = λ q s. emptied s; becomes = λ q s. q }

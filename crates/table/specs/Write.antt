@@ -1,5 +1,5 @@
 -- What WRITE-REPLACE comes to in one cell.
-use Rattle.std.specs.Prelude.{ℕ, Bool, true, false, cond, not, List, [], ◌∷◌, ◌++◌, length, is_some, Some, None, Option, nat_le, slice_index_or, slice_set}
+use Rattle.std.specs.Prelude.{ℕ, Bool, true, false, cond, not, List, [], ◌∷◌, ◌++◌, length, is_some, Some, None, Option, Ok, Err, Result, nat_le, slice_index_or, slice_set}
 use Rattle.std.specs.Option.{unwrap_or}
 use Rattle.cbsp.specs.declared.channel.Channel.{Channel}
 use Rattle.cbsp.specs.declared.channel.Channel.TheVariants.{Basic, Extended}
@@ -21,6 +21,7 @@ use Rattle.rows.specs.Keys.{key_of, is_same, first_of, without}
 use Rattle.table.specs.declared.asked.Asked.{Asked}
 use Rattle.table.specs.declared.outcome.Outcome.{Outcome}
 use Rattle.table.specs.declared.write.Write.{Write}
+use Rattle.table.specs.Acts.{Acts}
 use Rattle.table.specs.Outcomes.{outcome}
 use Rattle.table.specs.Pool.{free_slot}
 use Rattle.table.specs.Settings.{Setting, here, replaced, count_of}
@@ -88,6 +89,11 @@ blocked q rs slot =
     cond (is_some (first_of (is_same (key_in q q.serial)) rs)) (Some MessageReferenceAlreadyUsed)
     (cond (nat_le 8 (length rs)) (Some CellMemoryExceeded) (cond (is_some slot) None (Some BscMemoryExceeded)))
 
+-- the value, unless there is a cause
+abbrev pub unless : {A : Type 0} → Option Cause → A → Result A Cause
+unless None a = Ok a
+unless (Some c) a = Err c
+
 -- the request's own slot, else one that is free
 abbrev pub slot_for : List (List Row) → Option ℕ → Option ℕ
 slot_for rows None = free_slot rows
@@ -117,3 +123,7 @@ module _ (w : Write) (s : Setting) where
   -- the request keeps the slot with which it first began a message
   unfoldable pub write_after : Write
   write_after = record { asked = w.asked; slot = cond (is_some cause_now) w.slot slot_now }
+
+-- WRITE-REPLACE as a kind of request
+abbrev pub write_acts : Acts Write
+write_acts = record { answer = answer_write; leaves = written; becomes = write_after }

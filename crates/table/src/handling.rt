@@ -1,5 +1,5 @@
 // A request over what a Cell List came to.
-ghost use Rattle.std.specs.Prelude.{◌≡◌, ◌+◌, ◌<◌, ◌≤◌, map, length, vec_len, vec_capacity};
+ghost use Rattle.std.specs.Prelude.{◌≡◌, ◌+◌, ◌<◌, ◌≤◌, map, length};
 ghost use Rattle.std.specs.List.{AllByRecursion};
 ghost use Rattle.rows.specs.Held.{rows_of};
 ghost use Rattle.naming.specs.Namings.{IsThere};
@@ -7,21 +7,23 @@ ghost use Rattle.table.specs.Handling.{capability_at, comes_of, handled, request
 
 use crate::outcome::Outcome;
 use crate::request::CellRequest;
+use bounded::list::Bounded;
 use cells::cell::{Capability, Cell};
 use naming::naming::Naming;
 use rows::rows::Rows;
 use site::Site;
 
+// NoChannel past the list: no naming names a cell there, so that an Option would only be unwrapped.
 fn capability_at(cells: &[Cell], cell: usize) -> Capability
     ensures { result ≡ capability_at cells.now cell }
 {
-    if cell >= cells.len() {
-        return Capability::NoChannel;
-    }
-    cells[cell].capability
+    cells
+        .get(cell)
+        .map_or(Capability::NoChannel, |found| found.capability)
 }
 
-// One naming.
+// One naming. The rows are lent for writing, the cells and the site for reading alone: a struct of the three
+// would be made anew at each call, since the rows are lent on.
 fn handle_one<R: CellRequest, S: Site>(
     request: &mut R,
     rows: &mut [Rows],
@@ -30,9 +32,9 @@ fn handle_one<R: CellRequest, S: Site>(
     naming: Naming,
 ) -> Outcome
     requires { IsThere (length rows.old) naming }
-    ensures comes { result ≡ comes_of R.CellRequest.answer R.CellRequest.leaves R.CellRequest.becomes cells.now (S.Site.model site.now).opened request.old (map rows_of rows.old) naming }
-    ensures rows { map rows_of rows.new ≡ rows_on R.CellRequest.answer R.CellRequest.leaves R.CellRequest.becomes cells.now (S.Site.model site.now).opened request.old (map rows_of rows.old) naming }
-    ensures request { request.new ≡ request_on R.CellRequest.answer R.CellRequest.leaves R.CellRequest.becomes cells.now (S.Site.model site.now).opened request.old (map rows_of rows.old) naming }
+    ensures comes { result ≡ comes_of R.CellRequest.acts cells.now (S.Site.model site.now).opened request.old (map rows_of rows.old) naming }
+    ensures rows { map rows_of rows.new ≡ rows_on R.CellRequest.acts cells.now (S.Site.model site.now).opened request.old (map rows_of rows.old) naming }
+    ensures request { request.new ≡ request_on R.CellRequest.acts cells.now (S.Site.model site.now).opened request.old (map rows_of rows.old) naming }
 {
     match naming {
         Naming::Cell(cell) => {
@@ -42,20 +44,20 @@ fn handle_one<R: CellRequest, S: Site>(
     }
 }
 
-// One naming after the other; what comes of each goes to `out`.
-pub fn handle<R: CellRequest, S: Site>(
+// One naming after the other; what comes of each goes to `out`. A for, no map: what makes the outcomes
+// changes the rows and the request.
+pub fn handle<R: CellRequest, S: Site, const N: usize>(
     request: &mut R,
     rows: &mut [Rows],
     cells: &[Cell],
     site: &S,
     namings: &[Naming],
-    out: &mut Vec<Outcome>,
+    out: &mut Bounded<Outcome, N>,
 )
     requires there { AllByRecursion (IsThere (length rows.old)) namings.now }
-    requires room { vec_len out.old + length namings.now ≤ vec_capacity out.old }
-    ensures handled { stage request.new (map rows_of rows.new) out.new.items ≡ handled R.CellRequest.answer R.CellRequest.leaves R.CellRequest.becomes cells.now (S.Site.model site.now).opened (stage request.old (map rows_of rows.old) out.old.items) namings.now }
-    ensures len { vec_len out.new ≡ vec_len out.old + length namings.now }
-    ensures reserved { vec_capacity out.new ≡ vec_capacity out.old }
+    requires room { length out.old + length namings.now ≤ N }
+    ensures handled { stage request.new (map rows_of rows.new) out.new ≡ handled R.CellRequest.acts cells.now (S.Site.model site.now).opened (stage request.old (map rows_of rows.old) out.old) namings.now }
+    ensures len { length out.new ≡ length out.old + length namings.now }
 {
     for naming in namings {
         let outcome = handle_one(request, rows, cells, site, *naming);

@@ -6,7 +6,8 @@ use elements::cause::Cause;
 use lists::cell::CellIdentity;
 use naming::naming::Naming;
 
-#[derive(Clone, Copy)]
+// No Result: an old message may have ended although the request failed after it.
+#[derive(Clone, Copy, PartialEq, Eq, Debug)]
 pub struct Outcome {
     pub whom: Naming,
     // the count of the message that ended, or was asked for

@@ -1,7 +1,7 @@
 // KILL, MESSAGE STATUS QUERY and RESET in one cell. None of them asks what the cell can do, or whether it is open.
-ghost use Rattle.std.specs.Prelude.{◌≡◌, ◌<◌, [], map, length, Option as Maybe};
+ghost use Rattle.std.specs.Prelude.{◌≡◌, ◌<◌, map, length};
 ghost use Rattle.rows.specs.Held.{rows_of};
-ghost use Rattle.table.specs.References.{answer_reference, answer_reset, counted, emptied, killed};
+ghost use Rattle.table.specs.References.{counted, kill_acts, query_acts, reset_acts};
 ghost use Rattle.table.specs.Settings.{setting};
 
 use crate::at_cell::{clear_at, rows_at, take_at};
@@ -14,23 +14,23 @@ use rows::key::{Key, first_of};
 use rows::row::Row;
 use rows::rows::Rows;
 
-// Ends the message that is the same.
-#[derive(Clone, Copy)]
+// Ends the message that is the same. A type of its own beside Query's, since a request does what its type says.
+#[derive(Clone, Copy, PartialEq, Eq, Debug)]
 pub struct Kill {
     pub key: Key,
 }
 
 // Asks for the count of the message that is the same.
-#[derive(Clone, Copy)]
+#[derive(Clone, Copy, PartialEq, Eq, Debug)]
 pub struct Query {
     pub key: Key,
 }
 
 // Ends every message.
-#[derive(Clone, Copy)]
+#[derive(Clone, Copy, PartialEq, Eq, Debug)]
 pub struct Reset {}
 
-// The count of a message that was found, or that there is none.
+// The count of a message that was found, or that there is none. A match: either way both parts are said.
 fn counted_in(cell: usize, found: Option<Row>) -> Outcome
     ensures { result ≡ counted cell found }
 {
@@ -50,11 +50,7 @@ fn counted_in(cell: usize, found: Option<Row>) -> Outcome
 }
 
 impl CellRequest for Kill {
-    ghost answer = { λ q s. answer_reference q.key s };
-
-    ghost leaves = { λ q s. killed q.key s };
-
-    ghost becomes = { λ q s. q };
+    ghost acts = { kill_acts };
 
     fn apply(
         &mut self,
@@ -68,11 +64,7 @@ impl CellRequest for Kill {
 }
 
 impl CellRequest for Query {
-    ghost answer = { λ q s. answer_reference q.key s };
-
-    ghost leaves = { λ q s. s.rows };
-
-    ghost becomes = { λ q s. q };
+    ghost acts = { query_acts };
 
     fn apply(
         &mut self,
@@ -86,11 +78,7 @@ impl CellRequest for Query {
 }
 
 impl CellRequest for Reset {
-    ghost answer = { λ q s. answer_reset s };
-
-    ghost leaves = { λ q s. emptied s };
-
-    ghost becomes = { λ q s. q };
+    ghost acts = { reset_acts };
 
     fn apply(
         &mut self,

@@ -9,7 +9,7 @@ use pages::pages::Pages;
 use rows::content::Content;
 use site::message::Page;
 
-// A page as it goes on the air.
+// A page as it goes on the air. No From: neither type is of this crate.
 fn on_air(page: &WirePage) -> Page
     ensures { result ≡ on_air page.now }
 {
@@ -23,8 +23,7 @@ pub fn store(content: &mut Content, coding: u8, pages: Pages<'_>)
     ensures { text_of content.new ≡ stored coding (pages_meant pages.entry) }
 {
     content.restart(coding);
-    let mut rest = pages;
-    while let Some(page) = rest.advance() {
-        let _ = content.push(on_air(&page));
+    for page in pages {
+        content.push_reserved(on_air(&page));
     }
 }

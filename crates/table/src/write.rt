@@ -4,8 +4,11 @@ use crate::asked::Asked;
 mod parts;
 mod step;
 
+// The contents that serve a table, each in its slot: they are reserved once, and messages of many cells share one.
+pub const SLOTS: u8 = 32;
+
 // The request, and the slot of its content once a message has begun with it: the cells begun by one request share one content.
-#[derive(Clone, Copy)]
+#[derive(Clone, Copy, PartialEq, Eq, Debug)]
 pub struct Write {
     pub asked: Asked,
     pub slot: Option<u8>,

@@ -1,4 +1,2 @@
-pub mod SlotLaws
-pub mod Texts
-pub mod SlotSteps
-pub mod Whole
+pub mod Back
+pub mod Headed

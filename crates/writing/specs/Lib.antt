@@ -1,3 +1,1 @@
-pub mod Elements
-pub mod Slots
 pub mod Writing

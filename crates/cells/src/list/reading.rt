@@ -1,27 +1,26 @@
 // Making a checked list, and reading a file into it.
-ghost use Rattle.std.specs.Prelude.{◌≡◌, ◌<◌, ◌≤◌, false, length, is_ok, IfOk, if◌then◌else◌, vec_len, vec_capacity};
-ghost use Rattle.cells.specs.File.{Apart, Distinct, Headed, built_in, cells_in, checked_file, identity_at, repeated};
+ghost use Rattle.std.specs.Prelude.{◌≡◌, ◌<◌, ◌≤◌, false, length, is_ok, IfOk, if◌then◌else◌};
+ghost use Rattle.cells.specs.File.{Apart, Distinct, built_in, cells_in, checked_file, identity_at, repeated};
 ghost use Rattle.cells.specs.Held.{cells_of};
 
 use super::CellList;
 use crate::cell::Cell;
-use crate::file::{BUILT_IN, MOST_CELLS, cell_at, check};
+use crate::file::{BUILT_IN, CellFile, MOST_CELLS, check};
+use bounded::list::Bounded;
 use cbsp::refusal::Refusal;
 use std::alloc::{AllocError, Global};
 
-// Puts the cells of a file whose heading stands in place of what the vector holds.
-fn fill(cells: &mut Vec<Cell>, file: &[u8], count: usize)
-    requires fits { Headed file.now count }
-    requires apart { repeated (identity_at file.now) count ≡ false }
-    requires reserved { 64 ≤ vec_capacity cells.old }
-    ensures items { cells.new.items ≡ cells_in file.now }
-    ensures distinct { Distinct cells.new.items }
-    ensures len { vec_len cells.new ≡ count }
-    ensures reserved { 64 ≤ vec_capacity cells.new }
+// Puts the cells of a file in place of what the list holds. By number: a file gives its cells by their
+// numbers alone.
+fn fill(cells: &mut Bounded<Cell, MOST_CELLS>, file: &CellFile<'_>)
+    requires { repeated (identity_at file.now.octets.now) file.now.count ≡ false }
+    ensures items { cells.new ≡ cells_in file.now.octets.now }
+    ensures len { length cells.new ≡ file.now.count }
+    ensures distinct { Distinct cells.new }
 {
     cells.clear();
-    for k in 0..count {
-        cells.push_reserved(cell_at(file, count, k));
+    for k in 0..file.count {
+        cells.push_reserved(file.cell(k));
     }
 }
 
@@ -30,8 +29,23 @@ impl CellList {
     pub fn new(heap: Global) -> Result<CellList, AllocError>
         ensures { IfOk result (λ list. cells_of list ≡ cells_in built_in) }
     {
-        let mut cells = Vec::with_capacity(heap, MOST_CELLS)?;
-        fill(&mut cells, &BUILT_IN, 2);
+        let mut cells = Bounded::new(heap)?;
+        let file = CellFile {
+            octets: &BUILT_IN,
+            count: 2,
+        };
+        fill(&mut cells, &file);
+        Ok(CellList { cells })
+    }
+
+    // The same cells, in memory of their own.
+    pub fn copy(&self, heap: Global) -> Result<CellList, AllocError>
+        ensures { IfOk result (λ list. cells_of list ≡ cells_of self.now) }
+    {
+        let mut cells = Bounded::new(heap)?;
+        for cell in self.cells.as_slice() {
+            cells.push_reserved(*cell);
+        }
         Ok(CellList { cells })
     }
 
@@ -41,7 +55,11 @@ impl CellList {
         ensures cells { cells_of self.new ≡ (if is_ok result then cells_in file.now else cells_of self.old) }
     {
         let count = check(file)?;
-        fill(&mut self.cells, file, count);
+        let file = CellFile {
+            octets: file,
+            count,
+        };
+        fill(&mut self.cells, &file);
         Ok(count)
     }
 
@@ -51,12 +69,6 @@ impl CellList {
         ensures some { 0 < length result.now }
         ensures few { length result.now ≤ 64 }
         ensures apart { Apart result.now }
-    {
-        self.as_slice()
-    }
-
-    fn as_slice(&self) -> &[Cell]
-        ensures { result.now ≡ cells_of self.now }
     {
         self.cells.as_slice()
     }

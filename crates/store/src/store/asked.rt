@@ -1,17 +1,15 @@
-// The requests that name cells, each answered into the host's space. The marks are clear after it.
-ghost use Rattle.std.specs.Prelude.{◌≡◌, ◌≤◌, true, length, replicate};
-ghost use Rattle.answering.specs.Handled.{asked_by, key_by, kill_answer, query_answer, reset_answer, with_text, write_answer};
-ghost use Rattle.elements.specs.Octets.{put};
+// The requests that name cells, each answered into the host's space. The marks are clear after it. Four functions, not one
+// over a trait of requests: that would have a type, three methods and two laws for each request, where four calls stand here.
+ghost use Rattle.std.specs.Prelude.{◌≡◌, ◌≤◌, true, length};
+ghost use Rattle.answering.specs.Handled.{asked_by, key_by};
 ghost use Rattle.lists.specs.CellLists.{cells_fit};
-ghost use Rattle.messages.specs.Messages.{answer, spell};
-ghost use Rattle.outcomes.specs.Works.{kill_work, query_work, reset_work, write_work};
 ghost use Rattle.requests.specs.Requests.{reference, reference_meant, reset_meant, write_meant, writing};
-ghost use Rattle.table.specs.Storing.{stored};
-ghost use Rattle.store.specs.Held.{cells_held, rows_held, texts_held};
+ghost use Rattle.store.specs.Answered.{Killed, Queried, Replaced, WasReset};
 
 use super::Store;
 use answering::replying::{kill_reply, query_reply, reset_reply, write_reply};
 use answering::sending::send;
+use cells::file::MOST_CELLS;
 use requests::request::{Reference, Reset as ResetList, WriteReplace};
 use rows::key::Key;
 use site::Site;
@@ -19,6 +17,7 @@ use table::asked::Asked;
 use table::references::{Kill, Query, Reset};
 use table::write::Write;
 
+// No From for the two: neither type is of this crate.
 fn key_by(request: Reference<'_>) -> Key
     ensures { result ≡ key_by (reference_meant request.entry) }
 {
@@ -38,23 +37,18 @@ fn asked_by(request: WriteReplace<'_>) -> Asked
     }
 }
 
+// Marks and space are two arguments in each: both are the host's own, with rules of their own.
 impl Store {
     pub fn kill<S: Site>(
         &mut self,
         site: &S,
         request: Reference<'_>,
-        marks: &mut [u8],
+        marks: &mut [u8; MOST_CELLS],
         space: &mut [u8],
     ) -> usize
-        requires marks { length marks.old ≡ 64 }
         requires room { 2048 ≤ length space.old }
         requires fits { reference.fits (reference_meant request) ≡ true }
-        ensures cells { cells_held self.new ≡ cells_held self.old }
-        ensures rows { rows_held self.new ≡ (kill_work (cells_held self.old) (S.Site.model site.now).opened (key_by (reference_meant request.entry)) (rows_held self.old) (reference_meant request.entry).cells).rows }
-        ensures texts { texts_held self.new ≡ texts_held self.old }
-        ensures len { result ≡ length (spell (answer (kill_answer (cells_held self.old) (reference_meant request.entry) (kill_work (cells_held self.old) (S.Site.model site.now).opened (key_by (reference_meant request.entry)) (rows_held self.old) (reference_meant request.entry).cells).out))) }
-        ensures octets { space.new ≡ put (spell (answer (kill_answer (cells_held self.old) (reference_meant request.entry) (kill_work (cells_held self.old) (S.Site.model site.now).opened (key_by (reference_meant request.entry)) (rows_held self.old) (reference_meant request.entry).cells).out))) 0 space.old }
-        ensures clear { marks.new ≡ replicate 64 0 }
+        ensures { Killed self.old (S.Site.model site.now).opened (reference_meant request.entry) self.new result space.old space.new marks.new }
     {
         let key = key_by(request);
         self.handle(&mut Kill { key }, site, request.cells, marks);
@@ -66,18 +60,12 @@ impl Store {
         &mut self,
         site: &S,
         request: Reference<'_>,
-        marks: &mut [u8],
+        marks: &mut [u8; MOST_CELLS],
         space: &mut [u8],
     ) -> usize
-        requires marks { length marks.old ≡ 64 }
         requires room { 2048 ≤ length space.old }
         requires fits { reference.fits (reference_meant request) ≡ true }
-        ensures cells { cells_held self.new ≡ cells_held self.old }
-        ensures rows { rows_held self.new ≡ (query_work (cells_held self.old) (S.Site.model site.now).opened (key_by (reference_meant request.entry)) (rows_held self.old) (reference_meant request.entry).cells).rows }
-        ensures texts { texts_held self.new ≡ texts_held self.old }
-        ensures len { result ≡ length (spell (answer (query_answer (cells_held self.old) (reference_meant request.entry) (query_work (cells_held self.old) (S.Site.model site.now).opened (key_by (reference_meant request.entry)) (rows_held self.old) (reference_meant request.entry).cells).out))) }
-        ensures octets { space.new ≡ put (spell (answer (query_answer (cells_held self.old) (reference_meant request.entry) (query_work (cells_held self.old) (S.Site.model site.now).opened (key_by (reference_meant request.entry)) (rows_held self.old) (reference_meant request.entry).cells).out))) 0 space.old }
-        ensures clear { marks.new ≡ replicate 64 0 }
+        ensures { Queried self.old (S.Site.model site.now).opened (reference_meant request.entry) self.new result space.old space.new marks.new }
     {
         let key = key_by(request);
         self.handle(&mut Query { key }, site, request.cells, marks);
@@ -89,18 +77,12 @@ impl Store {
         &mut self,
         site: &S,
         request: ResetList<'_>,
-        marks: &mut [u8],
+        marks: &mut [u8; MOST_CELLS],
         space: &mut [u8],
     ) -> usize
-        requires marks { length marks.old ≡ 64 }
         requires room { 2048 ≤ length space.old }
         requires fits { cells_fit (reset_meant request) ≡ true }
-        ensures cells { cells_held self.new ≡ cells_held self.old }
-        ensures rows { rows_held self.new ≡ (reset_work (cells_held self.old) (S.Site.model site.now).opened (rows_held self.old) (reset_meant request.entry)).rows }
-        ensures texts { texts_held self.new ≡ texts_held self.old }
-        ensures len { result ≡ length (spell (answer (reset_answer (cells_held self.old) (reset_work (cells_held self.old) (S.Site.model site.now).opened (rows_held self.old) (reset_meant request.entry)).out))) }
-        ensures octets { space.new ≡ put (spell (answer (reset_answer (cells_held self.old) (reset_work (cells_held self.old) (S.Site.model site.now).opened (rows_held self.old) (reset_meant request.entry)).out))) 0 space.old }
-        ensures clear { marks.new ≡ replicate 64 0 }
+        ensures { WasReset self.old (S.Site.model site.now).opened (reset_meant request.entry) self.new result space.old space.new marks.new }
     {
         self.handle(&mut Reset {}, site, request.cells, marks);
         let reply = reset_reply(self.work.begun(), self.work.failed());
@@ -111,18 +93,12 @@ impl Store {
         &mut self,
         site: &S,
         request: WriteReplace<'_>,
-        marks: &mut [u8],
+        marks: &mut [u8; MOST_CELLS],
         space: &mut [u8],
     ) -> usize
-        requires marks { length marks.old ≡ 64 }
         requires room { 2048 ≤ length space.old }
         requires fits { writing.fits (write_meant request) ≡ true }
-        ensures cells { cells_held self.new ≡ cells_held self.old }
-        ensures rows { rows_held self.new ≡ (write_work (cells_held self.old) (S.Site.model site.now).opened (asked_by (write_meant request.entry)) (rows_held self.old) (write_meant request.entry).cells).rows }
-        ensures texts { texts_held self.new ≡ with_text (write_work (cells_held self.old) (S.Site.model site.now).opened (asked_by (write_meant request.entry)) (rows_held self.old) (write_meant request.entry).cells).request.slot (stored (write_meant request.entry).coding (write_meant request.entry).pages) (texts_held self.old) }
-        ensures len { result ≡ length (spell (answer (write_answer (cells_held self.old) (write_meant request.entry) (write_work (cells_held self.old) (S.Site.model site.now).opened (asked_by (write_meant request.entry)) (rows_held self.old) (write_meant request.entry).cells).out))) }
-        ensures octets { space.new ≡ put (spell (answer (write_answer (cells_held self.old) (write_meant request.entry) (write_work (cells_held self.old) (S.Site.model site.now).opened (asked_by (write_meant request.entry)) (rows_held self.old) (write_meant request.entry).cells).out))) 0 space.old }
-        ensures clear { marks.new ≡ replicate 64 0 }
+        ensures { Replaced self.old (S.Site.model site.now).opened (write_meant request.entry) self.new result space.old space.new marks.new }
     {
         let asked = asked_by(request);
         let mut write = Write { asked, slot: None };

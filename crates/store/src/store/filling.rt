@@ -3,7 +3,7 @@ ghost use Rattle.std.specs.Prelude.{◌≡◌, ◌≤◌, length};
 ghost use Rattle.answering.specs.Handled.{with_text};
 ghost use Rattle.pages.specs.Pages.{pages_meant};
 ghost use Rattle.table.specs.Storing.{stored};
-ghost use Rattle.store.specs.Held.{cells_held, rows_held, texts_held};
+ghost use Rattle.store.specs.Held.{texts_held};
 
 use super::Store;
 use pages::pages::Pages;
@@ -11,6 +11,7 @@ use table::storing::store;
 
 impl Store {
     // The content in a slot, where the request has one, says what the request says.
+    #[tactic(auto, using(crate::proofs::Filling::text_set))]
     pub(crate) fn fill(&mut self, slot: Option<u8>, coding: u8, pages: Pages<'_>)
         requires { length (pages_meant pages) ≤ 15 }
         ensures texts { texts_held self.new ≡ with_text slot (stored coding (pages_meant pages.entry)) (texts_held self.old) }
@@ -21,8 +22,8 @@ impl Store {
         let Some(slot) = slot else {
             return;
         };
-        if (slot as usize) < self.contents.len() {
-            store(&mut self.contents[slot as usize], coding, pages);
+        if let Some(content) = self.contents.get_mut(slot as usize) {
+            store(content, coding, pages);
         }
     }
 }

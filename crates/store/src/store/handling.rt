@@ -1,15 +1,16 @@
 // A request over its Cell List, and what its reply is made of.
-ghost use Rattle.std.specs.Prelude.{◌≡◌, ◌<◌, ◌≤◌, map, length, replicate};
+ghost use Rattle.std.specs.Prelude.{◌≡◌, ◌≤◌, map, length, replicate};
 ghost use Rattle.lists.specs.CellLists.{cells_meant};
 ghost use Rattle.lists.specs.Kinds.{cell_meant};
 ghost use Rattle.naming.specs.Namings.{named_by};
-ghost use Rattle.replies.specs.Lists.{begun_entry, completed_entry, failed_entry, picked};
-ghost use Rattle.replies.specs.Worked.{worked};
+ghost use Rattle.replies.specs.Worked.{Ran, worked};
 ghost use Rattle.answering.specs.Replies.{entry_of};
-ghost use Rattle.store.specs.Held.{cells_held, rows_held, texts_held};
+ghost use Rattle.store.specs.Answered.{Kept};
+ghost use Rattle.store.specs.Held.{cells_held, rows_held};
 
 use super::Store;
 use cells::cell::Cell;
+use cells::file::MOST_CELLS;
 use lists::cells::Cells;
 use lists::kinds::CellEntry;
 use site::Site;
@@ -20,10 +21,11 @@ impl Store {
         ensures value { result.now ≡ cells_held self.now }
         ensures few { length result.now ≤ 64 }
     {
-        self.cells.as_slice()
+        self.cells.cells()
     }
 
     // The cells as a Cell List names them.
+    #[tactic(auto, using(crate::proofs::Entries::entries_mean))]
     pub fn entries(&self) -> &[CellEntry]
         ensures { map cell_meant result.now ≡ map entry_of (cells_held self.now) }
     {
@@ -36,23 +38,18 @@ impl Store {
         request: &mut R,
         site: &S,
         list: Cells<'_>,
-        marks: &mut [u8],
+        marks: &mut [u8; MOST_CELLS],
     )
-        requires marks { length marks.old ≡ 64 }
-        requires few { length (named_by (cells_meant list)) ≤ 128 }
-        ensures cells { cells_held self.new ≡ cells_held self.old }
-        ensures texts { texts_held self.new ≡ texts_held self.old }
-        ensures request { request.new ≡ (worked R.CellRequest.answer R.CellRequest.leaves R.CellRequest.becomes (cells_held self.old) (S.Site.model site.now).opened request.old (rows_held self.old) (cells_meant list.entry)).request }
-        ensures rows { rows_held self.new ≡ (worked R.CellRequest.answer R.CellRequest.leaves R.CellRequest.becomes (cells_held self.old) (S.Site.model site.now).opened request.old (rows_held self.old) (cells_meant list.entry)).rows }
-        ensures begun { self.new.work.begun.items ≡ picked (begun_entry (cells_held self.old)) (worked R.CellRequest.answer R.CellRequest.leaves R.CellRequest.becomes (cells_held self.old) (S.Site.model site.now).opened request.old (rows_held self.old) (cells_meant list.entry)).out }
-        ensures completed { self.new.work.completed.items ≡ picked (completed_entry (cells_held self.old)) (worked R.CellRequest.answer R.CellRequest.leaves R.CellRequest.becomes (cells_held self.old) (S.Site.model site.now).opened request.old (rows_held self.old) (cells_meant list.entry)).out }
-        ensures failed { self.new.work.failed.items ≡ picked (failed_entry (cells_held self.old)) (worked R.CellRequest.answer R.CellRequest.leaves R.CellRequest.becomes (cells_held self.old) (S.Site.model site.now).opened request.old (rows_held self.old) (cells_meant list.entry)).out }
+        requires { length (named_by (cells_meant list)) ≤ 128 }
+        ensures few { length (cells_held self.old) ≤ 64 }
+        ensures kept { Kept self.old self.new }
+        ensures ran { Ran (cells_held self.old) (worked R.CellRequest.acts (cells_held self.old) (S.Site.model site.now).opened request.old (rows_held self.old) (cells_meant list.entry)) request.new (rows_held self.new) self.new.work }
         ensures clear { marks.new ≡ replicate 64 0 }
     {
         self.work.run(
             request,
             self.rows.as_mut_slice(),
-            self.cells.as_slice(),
+            self.cells.cells(),
             site,
             list,
             marks,

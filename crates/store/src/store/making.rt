@@ -1,5 +1,5 @@
 // Making a store over a checked list of cells.
-ghost use Rattle.std.specs.Prelude.{◌≡◌, ◌<◌, ◌≤◌, [], map, length, replicate, IfOk, vec_len};
+ghost use Rattle.std.specs.Prelude.{◌≡◌, [], map, length, replicate, IfOk, vec_len};
 ghost use Rattle.cells.specs.Held.{cells_of};
 ghost use Rattle.rows.specs.Held.{rows_of};
 ghost use Rattle.rows.specs.Texts.{no_text, text_of};
@@ -9,34 +9,30 @@ ghost use Rattle.store.specs.Held.{cells_held, rows_held, texts_held};
 use super::Store;
 use cells::cell::Cell;
 use cells::list::CellList;
-use lists::cell::CellIdentity;
 use lists::kinds::CellEntry;
+use replies::identity::identity_of;
 use replies::work::Work;
 use rows::content::Content;
 use rows::rows::Rows;
 use std::alloc::{AllocError, Global};
+use table::write::SLOTS;
 
 // The contents that serve a table.
-const CONTENTS: usize = 32;
+const CONTENTS: usize = SLOTS as usize;
 
-// A cell as a Cell List names it.
+// A cell as a Cell List names it. No From: neither type is of this crate.
 fn entry_of(cell: &Cell) -> CellEntry
     ensures { result ≡ list_entry cell.now }
 {
-    let identity = cell.identity;
     CellEntry {
-        cell: CellIdentity::LacCi(identity.lac, identity.ci),
+        cell: identity_of(cell),
     }
 }
 
 fn entries_of(heap: Global, cells: &[Cell]) -> Result<Vec<CellEntry>, AllocError>
     ensures { IfOk result (λ v. v.items ≡ map list_entry cells.now) }
 {
-    let mut entries = Vec::with_capacity(heap, cells.len())?;
-    for cell in cells {
-        entries.push(entry_of(cell))?;
-    }
-    Ok(entries)
+    cells.iter().map(|cell| entry_of(cell)).collect(heap)
 }
 
 // No message in any cell.
@@ -45,20 +41,17 @@ fn no_rows(heap: Global, cells: &[Cell]) -> Result<Vec<Rows>, AllocError>
     ensures len { IfOk result (λ v. vec_len v ≡ length cells.now) }
 {
     let mut rows = Vec::with_capacity(heap, cells.len())?;
-    for _cell in cells {
-        rows.push(Rows::new(heap)?)?;
-    }
+    rows.try_resize_with(cells.len(), || Rows::new(heap))?;
     Ok(rows)
 }
 
-// Nothing in any content.
+// Nothing in any content. Made as the rows are: one function for both would take the making as a closure, and say of it what
+// Rows::new and Content::new say.
 fn new_contents(heap: Global) -> Result<Vec<Content>, AllocError>
     ensures { IfOk result (λ v. map text_of v.items ≡ replicate 32 no_text) }
 {
     let mut contents = Vec::with_capacity(heap, CONTENTS)?;
-    for _slot in 0..CONTENTS {
-        contents.push(Content::new(heap)?)?;
-    }
+    contents.try_resize_with(CONTENTS, || Content::new(heap))?;
     Ok(contents)
 }
 
@@ -69,7 +62,7 @@ impl Store {
         ensures rows { IfOk result (λ s. rows_held s ≡ map (λ _. []) (cells_of list.now)) }
         ensures texts { IfOk result (λ s. texts_held s ≡ replicate 32 no_text) }
     {
-        let cells = Vec::from_slice(heap, list.cells())?;
+        let cells = list.copy(heap)?;
         let entries = entries_of(heap, list.cells())?;
         let rows = no_rows(heap, list.cells())?;
         let contents = new_contents(heap)?;

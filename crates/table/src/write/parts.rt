@@ -1,7 +1,9 @@
 // The parts of the step.
-ghost use Rattle.std.specs.Prelude.{◌≡◌, ◌<◌, [], map, length, slice_index_or, slice_set};
+ghost use Rattle.std.specs.Prelude.{◌≡◌, ◌<◌, map, length};
+ghost use Rattle.std.specs.Option.{unwrap_or};
 ghost use Rattle.rows.specs.Held.{rows_of};
-ghost use Rattle.table.specs.Write.{barred, blocked, cut, ended_by, has_channel, key_in, lacks, row_of, slot_for, supports};
+ghost use Rattle.table.specs.AtCell.{rows_at, with_rows};
+ghost use Rattle.table.specs.Write.{barred, blocked, cut, ended_by, has_channel, key_in, lacks, row_of, slot_for, supports, unless};
 
 use crate::asked::Asked;
 use crate::at_cell::take_at;
@@ -11,37 +13,12 @@ use cells::cell::Capability;
 use elements::cause::Cause;
 use rows::key::{Key, first_of};
 use rows::row::Row;
-use rows::rows::Rows;
-
-fn key_in(asked: &Asked, serial: u16) -> Key
-    ensures { result ≡ key_in asked.entry.now serial }
-{
-    Key::new(asked.channel, asked.identifier, serial)
-}
-
-// The message that begins.
-pub(crate) fn row_of(asked: &Asked, slot: u8) -> Row
-    ensures { result ≡ row_of asked.entry.now slot }
-{
-    Row {
-        channel: asked.channel,
-        identifier: asked.identifier,
-        serial: asked.serial,
-        period: asked.period,
-        requested: asked.requested,
-        count: 0,
-        wait: 0,
-        slot,
-    }
-}
+use rows::rows::{MOST_ROWS, Rows};
 
 fn has_channel(capability: Capability) -> bool
     ensures { result ≡ has_channel capability }
 {
-    match capability {
-        Capability::NoChannel => false,
-        Capability::BasicOnly | Capability::BothChannels => true,
-    }
+    capability != Capability::NoChannel
 }
 
 fn is_supported(capability: Capability, channel: Channel) -> bool
@@ -55,76 +32,88 @@ fn is_supported(capability: Capability, channel: Channel) -> bool
     }
 }
 
-fn is_old_absent(asked: &Asked, rows: &[Row]) -> bool
-    ensures { result ≡ lacks asked.entry.now asked.entry.now.old rows.now }
-{
-    match asked.old {
-        Some(serial) => first_of(rows, key_in(asked, serial)).is_none(),
-        None => false,
-    }
-}
-
-// Why nothing is done in a cell.
-pub(crate) fn bar(
-    asked: &Asked,
-    capability: Capability,
-    opened: bool,
-    rows: &[Row],
-) -> Option<Cause>
-    ensures { result ≡ barred asked.entry.now capability opened rows.now }
-{
-    if !has_channel(capability) {
-        return Some(Cause::CellBroadcastNotSupported);
-    }
-    if !is_supported(capability, asked.channel) {
-        return Some(Cause::ExtendedChannelNotSupported);
-    }
-    if !opened {
-        return Some(Cause::CellBroadcastNotOperational);
-    }
-    if is_old_absent(asked, rows) {
-        return Some(Cause::MessageReferenceNotIdentified);
-    }
-    None
-}
-
-// Ends the old message, if one was given.
-pub(crate) fn end_old(asked: &Asked, rows: &mut [Rows], cell: usize) -> Option<u64>
-    requires { cell < length rows.old }
-    ensures value { result ≡ ended_by asked.entry.now asked.entry.now.old (slice_index_or (map rows_of rows.old) cell []) }
-    ensures after { map rows_of rows.new ≡ slice_set (map rows_of rows.old) cell (cut asked.entry.now asked.entry.now.old (slice_index_or (map rows_of rows.old) cell [])) }
-{
-    match asked.old {
-        Some(serial) => match take_at(rows, cell, key_in(asked, serial)) {
-            Some(row) => Some(row.count),
-            None => None,
-        },
-        None => None,
-    }
-}
-
 // The request's own slot, else one that is free.
 pub(crate) fn slot_for(rows: &[Rows], slot: Option<u8>) -> Option<u8>
     ensures { result ≡ slot_for (map rows_of rows.now) slot }
 {
-    match slot {
-        Some(own) => Some(own),
-        None => free_slot(rows),
-    }
+    slot.or_else(|| free_slot(rows))
 }
 
-// Why the new message does not begin in a cell.
-pub(crate) fn block(asked: &Asked, rows: &[Row], slot: Option<u8>) -> Option<Cause>
-    ensures { result ≡ blocked asked.entry.now rows.now slot }
-{
-    if first_of(rows, key_in(asked, asked.serial)).is_some() {
-        return Some(Cause::MessageReferenceAlreadyUsed);
+impl Asked {
+    fn key_in(&self, serial: u16) -> Key
+        ensures { result ≡ key_in self.now serial }
+    {
+        Key::new(self.channel, self.identifier, serial)
     }
-    if rows.len() >= 8 {
-        return Some(Cause::CellMemoryExceeded);
+
+    // The message that begins.
+    pub(crate) fn row_of(&self, slot: u8) -> Row
+        ensures { result ≡ row_of self.now slot }
+    {
+        Row {
+            channel: self.channel,
+            identifier: self.identifier,
+            serial: self.serial,
+            period: self.period,
+            requested: self.requested,
+            count: 0,
+            wait: 0,
+            slot,
+        }
     }
-    if slot.is_none() {
-        return Some(Cause::BscMemoryExceeded);
+
+    fn is_old_absent(&self, rows: &[Row]) -> bool
+        ensures { result ≡ lacks self.now self.now.old rows.now }
+    {
+        self.old
+            .is_some_and(|serial| first_of(rows, self.key_in(serial)).is_none())
     }
-    None
+
+    // Why nothing is done in a cell, if there is a reason.
+    pub(crate) fn bar(
+        &self,
+        capability: Capability,
+        opened: bool,
+        rows: &[Row],
+    ) -> Result<(), Cause>
+        ensures { result ≡ unless (barred self.now capability opened rows.now) tt }
+    {
+        if !has_channel(capability) {
+            return Err(Cause::CellBroadcastNotSupported);
+        }
+        if !is_supported(capability, self.channel) {
+            return Err(Cause::ExtendedChannelNotSupported);
+        }
+        if !opened {
+            return Err(Cause::CellBroadcastNotOperational);
+        }
+        if self.is_old_absent(rows) {
+            return Err(Cause::MessageReferenceNotIdentified);
+        }
+        Ok(())
+    }
+
+    // Ends the old message, if one was given: its count, if it was there.
+    pub(crate) fn end_old(&self, rows: &mut [Rows], cell: usize) -> Option<u64>
+        requires { cell < length rows.old }
+        ensures value { result ≡ ended_by self.now self.now.old (rows_at rows.old cell) }
+        ensures after { map rows_of rows.new ≡ with_rows rows.old cell (cut self.now self.now.old (rows_at rows.old cell)) }
+    {
+        let key = self.key_in(self.old?);
+        let row = take_at(rows, cell, key)?;
+        Some(row.count)
+    }
+
+    // The slot of the new message, or why it does not begin in a cell.
+    pub(crate) fn block(&self, rows: &[Row], slot: Option<u8>) -> Result<u8, Cause>
+        ensures { result ≡ unless (blocked self.now rows.now slot) (unwrap_or slot 0) }
+    {
+        if first_of(rows, self.key_in(self.serial)).is_some() {
+            return Err(Cause::MessageReferenceAlreadyUsed);
+        }
+        if rows.len() >= MOST_ROWS {
+            return Err(Cause::CellMemoryExceeded);
+        }
+        slot.ok_or(Cause::BscMemoryExceeded)
+    }
 }

@@ -1,12 +1,12 @@
 // The step in one cell.
-ghost use Rattle.std.specs.Prelude.{◌≡◌, ◌<◌, [], ◌∷◌, ◌++◌, map, length, is_some, if◌then◌else◌, slice_index_or, slice_set};
+ghost use Rattle.std.specs.Prelude.{◌≡◌, ◌<◌, [], ◌∷◌, ◌++◌, map, length, is_ok, if◌then◌else◌};
 ghost use Rattle.std.specs.Option.{unwrap_or};
 ghost use Rattle.rows.specs.Held.{rows_of};
-ghost use Rattle.table.specs.Settings.{setting};
-ghost use Rattle.table.specs.Write.{answer_write, blocked, row_of, slot_for, write_after, written};
+ghost use Rattle.table.specs.AtCell.{rows_at, with_rows};
+ghost use Rattle.table.specs.Write.{blocked, row_of, slot_for, unless, write_acts};
 
 use super::Write;
-use super::parts::{bar, block, end_old, row_of, slot_for};
+use super::parts::slot_for;
 use crate::asked::Asked;
 use crate::at_cell::{push_at, rows_at};
 use crate::outcome::Outcome;
@@ -17,27 +17,21 @@ use naming::naming::Naming;
 use rows::rows::Rows;
 
 // Begins the new message, or says why not.
-fn begin(asked: &Asked, rows: &mut [Rows], cell: usize, slot: &mut Option<u8>) -> Option<Cause>
+fn begin(asked: &Asked, rows: &mut [Rows], cell: usize, slot: &mut Option<u8>) -> Result<(), Cause>
     requires { cell < length rows.old }
-    ensures cause { result ≡ blocked asked.entry.now (slice_index_or (map rows_of rows.old) cell []) (slot_for (map rows_of rows.old) slot.old) }
-    ensures rows { map rows_of rows.new ≡ (if is_some result then map rows_of rows.old else slice_set (map rows_of rows.old) cell (slice_index_or (map rows_of rows.old) cell [] ++ row_of asked.entry.now (unwrap_or (slot_for (map rows_of rows.old) slot.old) 0) ∷ [])) }
-    ensures slot { slot.new ≡ (if is_some result then slot.old else slot_for (map rows_of rows.old) slot.old) }
+    ensures answer { result ≡ unless (blocked asked.now (rows_at rows.old cell) (slot_for (map rows_of rows.old) slot.old)) tt }
+    ensures rows { map rows_of rows.new ≡ (if is_ok result then with_rows rows.old cell (rows_at rows.old cell ++ row_of asked.now (unwrap_or (slot_for (map rows_of rows.old) slot.old) 0) ∷ []) else map rows_of rows.old) }
+    ensures slot { slot.new ≡ (if is_ok result then slot_for (map rows_of rows.old) slot.old else slot.old) }
 {
     let found = slot_for(rows, *slot);
-    let cause = block(asked, rows_at(rows, cell), found);
-    if cause.is_none() {
-        push_at(rows, cell, row_of(asked, found.unwrap_or(0)));
-        *slot = found;
-    }
-    cause
+    let own = asked.block(rows_at(rows, cell), found)?;
+    push_at(rows, cell, asked.row_of(own));
+    *slot = Some(own);
+    Ok(())
 }
 
 impl CellRequest for Write {
-    ghost answer = { answer_write };
-
-    ghost leaves = { written };
-
-    ghost becomes = { write_after };
+    ghost acts = { write_acts };
 
     fn apply(
         &mut self,
@@ -47,15 +41,15 @@ impl CellRequest for Write {
         opened: bool,
     ) -> Outcome {
         let whom = Naming::Cell(cell);
-        if let Some(cause) = bar(&self.asked, capability, opened, rows_at(rows, cell)) {
+        if let Err(cause) = self.asked.bar(capability, opened, rows_at(rows, cell)) {
             return Outcome {
                 whom,
                 ended: None,
                 cause: Some(cause),
             };
         }
-        let ended = end_old(&self.asked, rows, cell);
-        let cause = begin(&self.asked, rows, cell, &mut self.slot);
+        let ended = self.asked.end_old(rows, cell);
+        let cause = begin(&self.asked, rows, cell, &mut self.slot).err();
         Outcome { whom, ended, cause }
     }
 }

@@ -1,7 +1,7 @@
-use Rattle.lists.proofs.Puts.{wrote_entry}
+use Rattle.lists.proofs.Puts.{writes_entry}
 use Rattle.lists.proofs.entry.put_entry.Goals as goal
 
 pub returns : goal.returns
 returns g c =
-    wrote_entry g.E.ListEntry.kind (g.E.ListEntry.meant c.args.entry.now) c.identity-cell.result _ _ _ _ _ _ _ _ c.identity-cell.ensures c.requires
-    c.put_form-at.ensures c.put_cell-at.ensures c.put_tail.ensures
+    writes_entry g.E.ListEntry.kind (g.E.ListEntry.meant c.args.entry.now) c.identity-cell.result _ _ _ _ _ c.identity-cell.ensures c.form.ensures c.requires
+    c.put_form.ensures c.put.ensures c.put_tail.ensures

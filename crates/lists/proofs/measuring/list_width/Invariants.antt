@@ -1,12 +1,12 @@
-use Rattle.std.proofs.Common.{◌≤◌}
-use Rattle.lists.specs.Listed.{listed, left_of}
+use Rattle.lists.specs.Forms.{form_code}
+use Rattle.lists.specs.Listed.{listed}
 use Rattle.lists.proofs.Widths.{Measured}
 use Rattle.lists.proofs.measuring.list_width.Given as goal
 
-abbrev pub invariant-loop-found : goal.invariant-loop-found
-invariant-loop-found g l =
-    Measured g.E.ListEntry.kind l.form (listed g.E.ListEntry.kind g.E.ListEntry.meant l.entries) (listed g.E.ListEntry.kind g.E.ListEntry.meant l.rest) l.count l.total
-    × (l.count ≤ l.most)
-
-abbrev pub decreases-loop-found : goal.decreases-loop-found
-decreases-loop-found g l = left_of l.rest
+abbrev pub invariant-loop-entry : goal.invariant-loop-entry
+invariant-loop-entry g l =
+    let k = g.E.ListEntry.kind in
+    let m = g.E.ListEntry.meant in
+    (goal.iterator-loop-entry g).can_next l.entry-iterator
+    × (goal.iterator-loop-entry g).is_finite l.entry-iterator
+    × Measured k (form_code l.form) (listed k m l.fn.entries) (listed k m l.entry-iterator) l.room l.total

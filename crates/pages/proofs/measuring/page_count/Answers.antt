@@ -1,14 +1,22 @@
-use Rattle.std.proofs.Common.{sym, arith}
-use Rattle.pages.specs.Pages.{pages_meant}
-use Rattle.pages.proofs.Counts.{counted_more, counted_many, counted_unfit}
+use Rattle.std.proofs.Common.{rules, tests, ◌≡◌, length, sym, refl, ◌∙◌}
+use Rattle.std.proofs.lemmas.Iterator.Consumers.{YieldsList-from_first, count_from_yields_List}
+use Rattle.std.proofs.lemmas.Iterator.Search.{all_from_yields_List}
+use Rattle.std.specs.List.{list_all}
+use Rattle.pages.specs.Pages.{page, pages_meant}
+use Rattle.pages.proofs.Counts.{unfit, counted}
 use Rattle.pages.proofs.measuring.page_count.Goals as goal
 
-pub returns-then-count-eq15 : goal.returns-then-count-eq15
-returns-then-count-eq15 c = sym (counted_many (pages_meant c.args.pages) _ _ _ _ c.in-Some.ensures.value c.loop-found.invariant.0 c.if-count-eq15.true)
+pub returns-then-not-all : goal.returns-then-not-all
+returns-then-not-all c =
+    let ps = pages_meant c.args.pages in
+    let r : c.all.result ≡ list_all page.fits ps
+    = all_from_yields_List page.fits c.all.new.self _ c.all.result c.all.ensures.ran (YieldsList-from_first (λ x. x) pages_meant ps refl) (λ x b q k. search (rules, tests)) in
+    sym (unfit ps (sym r ∙ c.if-not-all.true))
 
-pub returns-then-not-page_fits : goal.returns-then-not-page_fits
-returns-then-not-page_fits c = sym (counted_unfit (pages_meant c.args.pages) _ _ _ _ c.in-Some.ensures.value c.loop-found.invariant.0 (sym c.if-not-page_fits.ensures))
-
-pub loop-found-preserved : goal.loop-found-preserved
-loop-found-preserved c =
-    (counted_more (pages_meant c.args.pages) _ _ _ _ c.in-Some.ensures.value c.loop-found.invariant.0 (sym c.if-not-page_fits.ensures), omega arith)
+pub returns-then-count-le-MOST_PAGES : goal.returns-then-count-le-MOST_PAGES
+returns-then-count-le-MOST_PAGES c =
+    let ps = pages_meant c.args.pages in
+    let r : c.all.result ≡ list_all page.fits ps
+    = all_from_yields_List page.fits c.all.new.self _ c.all.result c.all.ensures.ran (YieldsList-from_first (λ x. x) pages_meant ps refl) (λ x b q k. search (rules, tests)) in
+    let n : c.count-count.result ≡ length ps = count_from_yields_List c.args.pages c.count-count.result c.count-count.ensures.ran (YieldsList-from_first (λ x. x) pages_meant ps refl) in
+    sym (counted ps _ (sym r ∙ c.if-not-all.false) n c.if-count-ge1.true c.if-count-le-MOST_PAGES.true)

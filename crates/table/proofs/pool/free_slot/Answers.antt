@@ -1,13 +1,14 @@
-use Rattle.std.proofs.Common.{map, arith}
+use Rattle.std.proofs.Common.{map, not, sym, refl, ◌∙◌, rules, tests}
+use Rattle.std.proofs.lemmas.Iterator.{YieldsList-from_range}
+use Rattle.std.proofs.lemmas.Iterator.Adapters.{option_map_id}
+use Rattle.std.proofs.lemmas.Iterator.Search.{find_from_yields_List}
 use Rattle.rows.specs.Held.{rows_of}
-use Rattle.table.proofs.Searches.{free_on, free_here, free_end}
+use Rattle.table.specs.Pool.{free_slot, is_used}
 use Rattle.table.proofs.pool.free_slot.Goals as goal
 
-pub returns-then-not-is_used : goal.returns-then-not-is_used
-returns-then-not-is_used c = free_here (map rows_of c.args.cells.now) c.loop-slot.slot c.loop-slot.invariant (omega arith) c.if-not-is_used.ensures
-
-pub loop-slot-preserved : goal.loop-slot-preserved
-loop-slot-preserved c = free_on (map rows_of c.args.cells.now) c.loop-slot.slot c.loop-slot.invariant (omega arith) c.if-not-is_used.ensures
-
 pub returns : goal.returns
-returns c = free_end (map rows_of c.args.cells.now) c.loop-slot.slot c.loop-slot.invariant (omega arith)
+unfolding free_slot
+returns c =
+    sym (option_map_id c.find.result)
+    ∙ find_from_yields_List (λ s. not (is_used (map rows_of c.args.cells.now) s)) _ _ _ c.find.ensures.ran (YieldsList-from_range 0 32 32 refl refl)
+    (λ x b q k. search (rules, tests))

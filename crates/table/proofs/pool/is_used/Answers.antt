@@ -1,23 +1,17 @@
-use Rattle.std.proofs.Common.{true, [], sym, refl, ap, ◌∙◌, arith}
+use Rattle.std.proofs.Common.{◌≡◌, Bool, List, [], ◌∷◌, map, refl, ap, ◌∙◌, ◌||◌, rules, tests}
+use Rattle.std.specs.List.{list_any}
+use Rattle.std.proofs.lemmas.Iterator.{YieldsList-from_slice}
+use Rattle.std.proofs.lemmas.Iterator.Search.{any_from_yields_List}
 use Rattle.rows.specs.Held.{rows_of}
-use Rattle.rows.specs.Keys.{any_of}
-use Rattle.rows.proofs.Searching.{told_hit, told_on, told_end}
 use Rattle.table.specs.Pool.{holds}
 use Rattle.table.proofs.pool.is_used.Goals as goal
 
-pub returns-then-is_held : goal.returns-then-is_held
-returns-then-is_held c =
-    told_hit rows_of (holds c.args.slot) (λ _. true) (any_of (holds c.args.slot)) (λ x xs. refl) c.args.cells.now c.loop-cell.cell-index
-    c.loop-cell.invariant _ [] c.loop-cell-test.true c.cell-item.is
-    (sym (c.if-is_held.ensures ∙ ap (holds c.args.slot) c.as_slice.ensures.value))
-
-pub loop-cell-preserved : goal.loop-cell-preserved
-loop-cell-preserved c =
-    told_on rows_of (holds c.args.slot) (λ _. true) (any_of (holds c.args.slot)) (λ x xs. refl) c.args.cells.now c.loop-cell.cell-index
-    c.loop-cell.invariant _ [] c.loop-cell-test.true c.cell-item.is
-    (sym (c.if-is_held.ensures ∙ ap (holds c.args.slot) c.as_slice.ensures.value))
+list_any-map : {X Y : Type 0} (test : Y → Bool) (f : X → Y) (xs : List X) → list_any (λ x. test (f x)) xs ≡ list_any test (map f xs)
+list_any-map test f [] = refl
+list_any-map test f (x ∷ xs) = ap (λ (b : Bool). test (f x) || b) (list_any-map test f xs)
 
 pub returns : goal.returns
 returns c =
-    told_end rows_of (holds c.args.slot) (λ _. true) (any_of (holds c.args.slot)) (λ x xs. refl) c.args.cells.now c.loop-cell.cell-index
-    c.loop-cell.invariant (omega arith)
+    any_from_yields_List (λ cell. holds c.args.slot (rows_of cell)) _ _ _ c.any.ensures.ran (YieldsList-from_slice c.args.cells.now cc)
+    (λ x b q k. search (rules, tests))
+    ∙ list_any-map (holds c.args.slot) rows_of c.args.cells.now

@@ -1,26 +1,33 @@
-use Rattle.std.proofs.Common.{List, map, ap, ◌∙◌}
+use Rattle.std.proofs.Common.{List, map, Ok, Err, Option, ap, ◌∙◌}
+use Rattle.elements.specs.declared.cause.Cause.{Cause}
 use Rattle.rows.specs.declared.row.Row.{Row}
 use Rattle.rows.specs.Held.{rows_of}
+use Rattle.table.specs.Outcomes.{outcome}
 use Rattle.table.specs.Settings.{Setting, setting}
-use Rattle.table.specs.Write.{barred}
-use Rattle.table.proofs.Writing.{stopped, went_on}
+use Rattle.table.specs.Write.{bar, barred, unless}
+use Rattle.table.proofs.Writing.{cause_of, stopped, went_on}
 use Rattle.table.proofs.write.step.WriteCellRequest.apply.Goals as goal
 
-pub returns-in-Some : goal.returns-in-Some
-returns-in-Some c =
+pub returns-in-Err : goal.returns-in-Err
+returns-in-Err c =
     let w = c.args.self.now in
     let s : Setting = setting (map rows_of c.args.rows.now) c.args.cell c.args.capability c.args.opened in
-    let r = stopped w s c.in-Some.cause (c.in-Some.ensures ∙ ap (λ (rs : List Row). barred w.asked c.args.capability c.args.opened rs) c.rows_at.ensures) in
+    let answered = c.in-Err.ensures ∙ ap (λ (rs : List Row). unless (barred w.asked c.args.capability c.args.opened rs) tt) c.rows_at.ensures in
+    let r = stopped w s c.in-Err.cause (cause_of (bar w s) (Err c.in-Err.cause) answered) in
     record { answer = r.answer; leaves = r.leaves; becomes = r.becomes }
 
 pub returns : goal.returns
 returns c =
     let w = c.args.self.now in
     let s : Setting = setting (map rows_of c.args.rows.now) c.args.cell c.args.capability c.args.opened in
+    let answered = c.in_default.ensures ∙ ap (λ (rs : List Row). unless (barred w.asked c.args.capability c.args.opened rs) tt) c.rows_at.ensures in
     let r =
-    went_on w s (map rows_of c.end_old-ended.new.rows) (map rows_of c.begin-cause.new.rows) c.end_old-ended.result c.begin-cause.new.slot
-    c.begin-cause.result
-    (c.in_default.ensures ∙ ap (λ (rs : List Row). barred w.asked c.args.capability c.args.opened rs) c.rows_at.ensures)
-    c.end_old-ended.ensures.value c.end_old-ended.ensures.after c.begin-cause.ensures.cause c.begin-cause.ensures.rows
-    c.begin-cause.ensures.slot in
-    record { answer = r.answer; leaves = r.leaves; becomes = r.becomes }
+    went_on w s (map rows_of c.end_old-ended.new.rows) (map rows_of c.begin.new.rows) c.end_old-ended.result c.begin.new.slot c.begin.result
+    (cause_of (bar w s) (Ok c.in_default.field-0) answered)
+    c.end_old-ended.ensures.value c.end_old-ended.ensures.after c.begin.ensures.answer c.begin.ensures.rows
+    c.begin.ensures.slot in
+    record {
+      answer = ap (λ (o : Option Cause). outcome s.cell c.end_old-ended.result o) c.err-cause.ensures.value ∙ r.answer;
+      leaves = r.leaves;
+      becomes = r.becomes;
+    }

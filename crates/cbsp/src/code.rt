@@ -1,0 +1,16 @@
+// Octets that stand for the cases of a kind. Each kind writes its table out: Rattle derives no From and no
+// TryFrom, and a macro of our own can't write their ghost members.
+use std::error::Error;
+use std::fmt;
+
+// An octet that stands for no case of its kind.
+#[derive(Clone, Copy, PartialEq, Eq, Hash, Debug)]
+pub struct UnknownCode(pub u8);
+
+impl fmt::Display for UnknownCode {
+    fn fmt<W: fmt::Write>(&self, f: &mut fmt::Formatter<W>) -> fmt::Result {
+        write!(f, "no case has the code {:02x}", self.0)
+    }
+}
+
+impl Error for UnknownCode {}
