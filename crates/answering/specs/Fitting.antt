@@ -5,7 +5,7 @@ use Rattle.cells.specs.declared.cell.Cell.{Cell}
 use Rattle.elements.specs.declared.cause.Cause.{Cause}
 use Rattle.elements.specs.declared.faults.Fault.{Fault}
 use Rattle.elements.specs.declared.recovery.Recovery.{Recovery}
-use Rattle.elements.specs.Octets.{put}
+use Rattle.cbsp.specs.Octets.{put}
 use Rattle.lists.specs.CellLists.{CellsV, cells_fit}
 use Rattle.messages.specs.Messages.{answer, error_for, spell}
 use Rattle.outcomes.specs.Works.{kill_work, query_work, reset_work, write_work}

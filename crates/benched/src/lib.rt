@@ -21,9 +21,9 @@ const ONE_CELL: [CellEntry; 1] = [CellEntry {
 // A number out of an identity, of which the benchmark makes a sum.
 fn low(cell: CellIdentity) -> u32 {
     match cell {
-        CellIdentity::LacCi(lac, ci) => lac as u32 + ci as u32,
-        CellIdentity::Ci(ci) => ci as u32,
-        CellIdentity::Lac(lac) => lac as u32,
+        CellIdentity::LacCi(lac, ci) => u32::from(lac) + u32::from(ci),
+        CellIdentity::Ci(ci) => u32::from(ci),
+        CellIdentity::Lac(lac) => u32::from(lac),
         CellIdentity::All => 1,
     }
 }
@@ -47,11 +47,11 @@ fn walk(message: Message<'_>) -> u32 {
             };
             let pages = write
                 .pages
-                .map(|page| page.used as u32 + page.content[0] as u32);
+                .map(|page| u32::from(page.used) + u32::from(page.content[0]));
             cells.wrapping_add(sum(pages))
         }
         Message::Answer(Answer::KillComplete(ended)) => ended.done.completed.map_or(1, |entries| {
-            sum(entries.map(|entry| low(entry.cell).wrapping_add(entry.count as u32)))
+            sum(entries.map(|entry| low(entry.cell).wrapping_add(u32::from(entry.count))))
         }),
         _ => 1,
     }

@@ -6,7 +6,8 @@ use Rattle.cbsp.specs.Serials.{same_code}
 use Rattle.cells.specs.declared.cell.Identity.{Identity}
 use Rattle.elements.specs.declared.recovery.Recovery.{Recovery}
 use Rattle.elements.specs.declared.recovery.Recovery.TheVariants.{Available, Lost}
-use Rattle.elements.specs.Octets.{mapped, two_at}
+use Rattle.cbsp.specs.Octets.{two_at}
+use Rattle.elements.specs.Octets.{mapped}
 use Rattle.lists.specs.declared.cell.CellIdentity.{CellIdentity}
 use Rattle.lists.specs.declared.cell.CellIdentity.TheVariants.{LacCi, Ci, Lac, All}
 use Rattle.lists.specs.CellLists.{CellsV, all, named}

@@ -17,6 +17,7 @@ pub fn announced(octets: &[u8]) -> Option<usize>
     let [_, high, middle, low, ..] = octets else {
         return None;
     };
+    // as: no From makes a usize of four octets
     let body = u32::from_be_bytes([0, *high, *middle, *low]);
     Some(HEADER + body as usize)
 }

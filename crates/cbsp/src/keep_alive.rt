@@ -12,7 +12,7 @@ pub const SECONDS: [u8; 38] = [
 pub fn seconds(code: u8) -> Option<u8>
     ensures { result ≡ seconds_of code }
 {
-    let place = (code as usize).checked_sub(1)?;
+    let place = usize::from(code).checked_sub(1)?;
     // by the index: of `get` on a constant array a proof knows nothing
     if place < SECONDS.len() {
         Some(SECONDS[place])

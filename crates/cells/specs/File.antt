@@ -4,14 +4,11 @@ use Rattle.std.specs.List.{list_any, range_with_len}
 use Rattle.std.specs.Option.{unwrap_or}
 use Rattle.cbsp.specs.declared.refusal.Refusal.{Refusal}
 use Rattle.cbsp.specs.declared.refusal.Refusal.TheVariants.{FileLength, FileHeading, IdentityTwice, UnknownCapability}
+use Rattle.cbsp.specs.Octets.{two_at}
 use Rattle.cells.specs.declared.cell.Identity.{Identity}
 use Rattle.cells.specs.declared.cell.Capability.TheVariants.{NoChannel}
 use Rattle.cells.specs.declared.cell.Cell.{Cell}
 use Rattle.cells.specs.Capabilities.{capability_in}
-
--- two octets as one number, the higher octet first
-abbrev pub two : List ℕ → ℕ → ℕ
-two os at = slice_index os at * 256 + slice_index os (at + 1)
 
 -- a number below n passes the test
 abbrev pub any_below : (ℕ → Bool) → ℕ → Bool
@@ -23,7 +20,7 @@ cell_count os = slice_index os 0
 
 -- the identity of cell k: its location area code, then its cell identity
 abbrev pub identity_at : List ℕ → ℕ → Identity
-identity_at os k = record { lac = two os (2 + 4 * k); ci = two os (4 + 4 * k) }
+identity_at os k = record { lac = two_at os (2 + 4 * k); ci = two_at os (4 + 4 * k) }
 
 -- the octet with the capability of cell k
 abbrev pub capability_octet : List ℕ → ℕ → ℕ

@@ -1,7 +1,7 @@
 // The cell file: how many cells, how wide an identity is, the identities, the capabilities.
 ghost use Rattle.std.specs.Prelude.{◌≡◌, ◌+◌, ◌*◌, ◌<◌, ◌≤◌, false, length, IfOk};
 ghost use Rattle.cells.specs.Capabilities.{capability_in};
-ghost use Rattle.cells.specs.File.{Headed, any_unknown, capability_octet, cell_at, checked_file, headed, identity_at, repeated, stands_before, two};
+ghost use Rattle.cells.specs.File.{Headed, any_unknown, capability_octet, cell_at, checked_file, headed, identity_at, repeated, stands_before};
 
 use crate::cell::{Capability, Cell, Identity};
 use cbsp::limits;
@@ -51,7 +51,7 @@ fn heading(file: &[u8]) -> Result<usize, Refusal>
     let [count, width, ..] = file else {
         return Err(Refusal::FileLength);
     };
-    let count = *count as usize;
+    let count = usize::from(*count);
     if !(1..=MOST_CELLS).contains(&count) || *width != 4 {
         return Err(Refusal::FileHeading);
     }

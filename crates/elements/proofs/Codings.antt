@@ -1,4 +1,5 @@
 -- Codes and values belong together.
+-- Kept: From and TryFrom say each its own table; that the two belong together is said here, and the library has no lemma of tables.
 use Rattle.std.proofs.Common.{◌≡◌, ℕ, cond, eqb, Some, None, Option, sym, refl, ap, ◌∙◌, inl, inr, arith}
 use Rattle.std.proofs.lemmas.Bool.{eqb-true}
 use Rattle.cbsp.specs.declared.channel.Channel.{Channel}

@@ -2,7 +2,8 @@
 use Rattle.std.proofs.Common.{◌≡◌, ℕ, ◌+◌, ◌<◌, ◌≤◌, Bool, true, List, [], ◌∷◌, ◌++◌, length, get_or, take, Some, None, Ok, Option, sym, refl, ap, ◌∙◌, subst, inl, inr, le_refl, arith, length-append}
 use Rattle.std.proofs.lemmas.Bool.{ltb-true, leb-true, le-leb, lt-ltb}
 use Rattle.std.proofs.lemmas.List.{take_more, get_or_at}
-use Rattle.elements.specs.Octets.{one, two, two_at}
+use Rattle.cbsp.specs.Octets.{two_at}
+use Rattle.elements.specs.Octets.{one, two}
 use Rattle.elements.specs.Elements.{within, valued, read_coded, ranged}
 use Rattle.elements.specs.Codec.{BodyLaws, number_body, coded_body, octet_body}
 use Rattle.elements.proofs.Standing.{when_ok, cond_was, same_ok, not_ok, two_stands, two_here}

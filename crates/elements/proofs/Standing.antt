@@ -1,7 +1,8 @@
 -- How an answer came about, and octets that stand between two places.
 use Rattle.std.proofs.Common.{◌≡◌, ℕ, zero, suc, ◌+◌, ◌*◌, ◌/◌, ◌%◌, ◌<◌, ◌≤◌, Bool, true, false, cond, ◌⊎◌, List, [], ◌∷◌, ◌++◌, length, get_or, take, drop, Ok, Err, Result, sym, refl, ap, ◌∙◌, inl, inr, append_assoc, add-zero, arith, take-add}
 use Rattle.std.proofs.lemmas.List.{take_more, get_or-append-add}
-use Rattle.elements.specs.Octets.{Octets, two, two_at, then, raised}
+use Rattle.cbsp.specs.Octets.{two_at}
+use Rattle.elements.specs.Octets.{Octets, two, then, raised}
 
 pub when_ok : {A E : Type 0} (b : Bool) (x : Result A E) (e : E) (v : A) → cond b x (Err e) ≡ Ok v → (b ≡ true) × (x ≡ Ok v)
 when_ok true x e v p = (refl, p)

@@ -33,7 +33,7 @@ whole_back {V} t c l w v f =
     ap (λ (x : Result (V × ℕ) Fault). then x (ended os)) r ∙ rw (le-ltb (4 + n) (length os) s)
 
 -- one kind of message among others
-taken_ok : {V W : Type 0} (make : V → W) (r : Result V Fault) (m : W) → taken make r ≡ Ok m → (v : V) × (r ≡ Ok v) × (make v ≡ m)
+pub taken_ok : {V W : Type 0} (make : V → W) (r : Result V Fault) (m : W) → taken make r ≡ Ok m → (v : V) × (r ≡ Ok v) × (make v ≡ m)
 taken_ok make (Ok v) m e = (v, refl, same_ok _ _ e)
 taken_ok make (Err f) m e = absurd (not_ok _ _ e)
 

@@ -3,7 +3,8 @@ use Rattle.std.specs.Prelude.{ℕ, ◌+◌, Bool, cond, ◌&&◌, List, length, 
 use Rattle.elements.specs.declared.faults.ElementFault.{ElementFault}
 use Rattle.elements.specs.declared.faults.ElementFault.TheVariants.{Unknown, RunsPast, OutOfRange}
 use Rattle.elements.specs.declared.faults.Fault.{Fault}
-use Rattle.elements.specs.Octets.{two_at, then, raised}
+use Rattle.cbsp.specs.Octets.{two_at}
+use Rattle.elements.specs.Octets.{then, raised}
 use Rattle.elements.specs.Faults.{to_message, missing}
 
 -- the place of what follows an identifier, nothing where the message ends or another identifier of the standard stands there

@@ -1,5 +1,6 @@
 -- Octets, and answers that are a value or a fault.
-use Rattle.std.specs.Prelude.{◌≡◌, ℕ, ◌+◌, ◌*◌, ◌/◌, ◌%◌, ◌<◌, List, [], ◌∷◌, ◌++◌, length, take, drop, Some, None, Ok, Err, Option, Result, slice_index}
+use Rattle.std.specs.Prelude.{◌≡◌, ℕ, ◌+◌, ◌/◌, ◌%◌, ◌<◌, List, [], ◌∷◌, length, Some, None, Ok, Err, Option, Result, slice_index}
+use Rattle.cbsp.specs.Octets.{put}
 
 abbrev pub one : ℕ → List ℕ
 one n = n ∷ []
@@ -11,9 +12,6 @@ two n = n / 256 ∷ n % 256 ∷ []
 -- a number of three octets
 abbrev pub three : ℕ → List ℕ
 three n = n / 65536 ∷ n / 256 % 256 ∷ n % 256 ∷ []
-
-abbrev pub two_at : List ℕ → ℕ → ℕ
-two_at os at = slice_index os at * 256 + slice_index os (at + 1)
 
 -- every number is an octet
 abbrev pub Octets : List ℕ → Type 0
@@ -28,10 +26,6 @@ then (Err e) f = Err e
 abbrev pub raised : {A E F : Type 0} → (E → F) → Result A E → Result A F
 raised g (Ok x) = Ok x
 raised g (Err e) = Err (g e)
-
--- os with xs written over it from a place
-abbrev pub put : List ℕ → ℕ → List ℕ → List ℕ
-put xs at os = take at os ++ (xs ++ drop (at + length xs) os)
 
 -- xs was written from a place, nothing else changed, and `next` is the place after it
 pub record Wrote (xs : List ℕ) (at : ℕ) (was is : List ℕ) (next : ℕ) : Type 0 where

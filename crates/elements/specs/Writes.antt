@@ -1,8 +1,7 @@
 -- What a writer has written.
-use Rattle.std.specs.Prelude.{◌≡◌, ◌+◌, ◌≤◌, ℕ, Bool, true, cond, ◌&&◌, List, length, nat_le, Some, None, Option}
+use Rattle.std.specs.Prelude.{◌≡◌, ◌+◌, ◌≤◌, ℕ, Bool, cond, List, length, nat_le, Some, None, Option}
 use Rattle.elements.specs.declared.writer.Writer.{Writer}
-use Rattle.elements.specs.Octets.{put}
-use Rattle.elements.specs.Codec.{Codec, Body}
+use Rattle.cbsp.specs.Octets.{put}
 
 -- xs was written from the writer's place, nothing else changed, and the writer stands behind it
 pub record Writes (xs : List ℕ) (was is : Writer) : Type 0 where

@@ -4,10 +4,12 @@ use Rattle.std.proofs.lemmas.Bool.Decides.{nat_tests}
 use Rattle.site.specs.Events.{Event, Chain}
 use Rattle.site.specs.Events.Event.{switched, started, offered}
 use Rattle.frame.specs.declared.frame_site.FrameSite.{FrameSite}
-use Rattle.frame.specs.Record.{put, record_octets}
+use Rattle.cbsp.specs.Octets.{put}
+use Rattle.cbsp.proofs.Puts.{put_none, put_more}
+use Rattle.frame.specs.Record.{record_octets}
 use Rattle.frame.specs.Frame.{large, fits}
 use Rattle.frame.specs.Frames.{WithinPeriod, frames_of, behind, Written, Ample, Packs}
-use Rattle.frame.proofs.Puts.{put_none, put_more, put_length}
+use Rattle.frame.proofs.Puts.{put_length}
 
 -- no octets
 behind_none : (used : ℕ) (memory : List ℕ) → behind used [] memory ≡ memory
@@ -20,7 +22,7 @@ large_alone x used p q le = grind (arith, nat_tests)
 -- octets, and octets behind them
 behind_more : (used next : ℕ) (a b memory : List ℕ) → next ≤ 21152 → next ≡ cond (large (length memory)) (used + length a) used → behind next b (behind used a memory) ≡ behind used (a ++ b) memory
 behind_more used next a b memory le e =
-    let more = put_more used next a b memory in
+    let more = put_more used a b memory next in
     let long = put_length used a memory in
     grind (arith, nat_tests, more, long)
 
@@ -52,6 +54,6 @@ packs s t (offered k d m true ∷ es) h p c =
     let memory = s.memory.now in
     let octets = record_octets k d m in
     let next = i.used ∙ large_alone (large (length memory)) s.used (s.used + length octets) s.used place in
-    let here = i.memory ∙ large_alone (large (length memory)) s.used (put s.used octets memory) memory place in
+    let here = i.memory ∙ large_alone (large (length memory)) s.used (put octets s.used memory) memory place in
     let all = behind_more s.used u.used octets (frames_of es) memory (omega arith) next in
     record { lender = w.lender ∙ i.lender; memory = cc }

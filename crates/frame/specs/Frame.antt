@@ -8,7 +8,8 @@ use Rattle.site.specs.CellStates.{cells_model, cells_sound}
 use Rattle.site.specs.Events.{Event}
 use Rattle.site.specs.Events.Event.{switched, started, offered}
 use Rattle.frame.specs.declared.frame_site.FrameSite.{FrameSite}
-use Rattle.frame.specs.Record.{put, record_octets}
+use Rattle.cbsp.specs.Octets.{put}
+use Rattle.frame.specs.Record.{record_octets}
 
 -- the memory of sixteen broadcasts with fifteen pages each
 abbrev pub memory_check : ℕ → Result (Unit {0}) Refusal
@@ -33,7 +34,7 @@ fits used = nat_le used 19830
 abbrev pub memory_after : ℕ → Event → List ℕ → List ℕ
 memory_after used (switched k b) memory = memory
 memory_after used started memory = memory
-memory_after used (offered k h m r) memory = cond r (cond (large (length memory) && fits used) (put used (record_octets k h m) memory) memory) memory
+memory_after used (offered k h m r) memory = cond r (cond (large (length memory) && fits used) (put (record_octets k h m) used memory) memory) memory
 
 -- the octets of the memory that are then used
 abbrev pub used_after : ℕ → ℕ → Event → ℕ

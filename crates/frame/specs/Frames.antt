@@ -3,7 +3,8 @@ use Rattle.std.specs.Prelude.{◌≡◌, ℕ, ◌+◌, ◌*◌, ◌≤◌, cond,
 use Rattle.site.specs.Events.{Event, Goes, Chain}
 use Rattle.site.specs.Events.Event.{switched, started, offered}
 use Rattle.frame.specs.declared.frame_site.FrameSite.{FrameSite}
-use Rattle.frame.specs.Record.{put, record_octets}
+use Rattle.cbsp.specs.Octets.{put}
+use Rattle.frame.specs.Record.{record_octets}
 use Rattle.frame.specs.Frame.{frame_model, Steps, large}
 
 -- no period starts in these calls
@@ -22,7 +23,7 @@ frames_of (offered k h m r ∷ es) = cond r (record_octets k h m) [] ++ frames_o
 
 -- the memory with octets behind those that are used, if it is large enough
 abbrev pub behind : ℕ → List ℕ → List ℕ → List ℕ
-behind used octets memory = cond (large (length memory)) (put used octets memory) memory
+behind used octets memory = cond (large (length memory)) (put octets used memory) memory
 
 -- from s to t the octets of those broadcasts were written behind what was used, and nothing else
 pub record Written (s : FrameSite) (es : List Event) (t : FrameSite) : Type 0 where

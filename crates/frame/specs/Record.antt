@@ -1,5 +1,5 @@
 -- What a broadcast writes into the memory of a frame site, and where.
-use Rattle.std.specs.Prelude.{ℕ, ◌+◌, List, [], ◌∷◌, ◌++◌, length, take, drop}
+use Rattle.std.specs.Prelude.{ℕ, ◌+◌, List, [], ◌∷◌, ◌++◌, take}
 use Rattle.cbsp.specs.declared.channel.Channel.{Channel}
 use Rattle.cbsp.specs.Channels.{channel_code}
 use Rattle.site.specs.declared.message.Page.{Page}
@@ -18,7 +18,3 @@ aired_octets m = pages_from m 1 (take (pages_on_air m) m.pages)
 -- the octets of one broadcast: the cell, the channel, and the pages
 abbrev pub record_octets : ℕ → Channel → Aired → List ℕ
 record_octets cell channel m = cell ∷ channel_code channel ∷ aired_octets m
-
--- the memory with octets from a place on; all others stay
-abbrev pub put : ℕ → List ℕ → List ℕ → List ℕ
-put at octets memory = take at memory ++ (octets ++ drop (at + length octets) memory)

@@ -3,7 +3,8 @@
 ghost use Rattle.std.specs.Prelude.{◌≡◌, ◌+◌, ◌*◌, ◌<◌, ◌≤◌, length};
 ghost use Rattle.site.specs.Messages.{aired};
 ghost use Rattle.site.specs.Pages.{pages_on_air, page_octets};
-ghost use Rattle.frame.specs.Record.{put, aired_octets, record_octets};
+ghost use Rattle.cbsp.specs.Octets.{put};
+ghost use Rattle.frame.specs.Record.{aired_octets, record_octets};
 
 use cbsp::channel::Channel;
 use site::message::{CbsMessage, MOST_PAGES, PAGE, Page, page_octets, pages_on_air};
@@ -15,7 +16,7 @@ pub const LONGEST: usize = 2 + MOST_PAGES * PAGE;
 fn write_page(space: &mut [u8], message: CbsMessage<'_>, index: usize, page: &Page)
     requires { (index < 15) × (88 * index + 88 ≤ length space.old) }
     ensures size { length (page_octets (aired message.entry) (index + 1) page.now) ≡ 88 }
-    ensures written { space.new ≡ put (88 * index) (page_octets (aired message.entry) (index + 1) page.now) space.old }
+    ensures written { space.new ≡ put (page_octets (aired message.entry) (index + 1) page.now) (88 * index) space.old }
 {
     // by the index: after `chunks_exact_mut` a proof knows no octet of the space
     let at = PAGE * index;
@@ -27,7 +28,7 @@ fn write_page(space: &mut [u8], message: CbsMessage<'_>, index: usize, page: &Pa
 fn write_pages(space: &mut [u8], message: CbsMessage<'_>)
     requires { 88 * pages_on_air (aired message) ≤ length space.old }
     ensures size { length (aired_octets (aired message.entry)) ≡ 88 * pages_on_air (aired message.entry) }
-    ensures written { space.new ≡ put 0 (aired_octets (aired message.entry)) space.old }
+    ensures written { space.new ≡ put (aired_octets (aired message.entry)) 0 space.old }
 {
     let aired = &message.pages[..pages_on_air(message)];
     for (index, page) in aired.iter().enumerate() {
@@ -40,7 +41,7 @@ pub fn write_record(space: &mut [u8], cell: u8, channel: Channel, message: CbsMe
     requires { 1322 ≤ length space.old }
     ensures bound { result ≤ 1322 }
     ensures size { result ≡ length (record_octets cell channel (aired message.entry)) }
-    ensures written { space.new ≡ put 0 (record_octets cell channel (aired message.entry)) space.old }
+    ensures written { space.new ≡ put (record_octets cell channel (aired message.entry)) 0 space.old }
 {
     let (heading, pages) = space.split_at_mut(2);
     heading.copy_from_slice(&[cell, u8::from(channel)]);

@@ -29,7 +29,7 @@ pub fn show(rt: &impl Print, list: &mut CellList, stream: &[u8]) -> io::Result<(
     }
 }
 
-// The channels on which a cell can broadcast.
+// The channels on which a cell can broadcast. Clone and Copy alone: they are made, printed and never compared.
 #[derive(Clone, Copy)]
 struct Channels(Capability);
 

@@ -1,4 +1,5 @@
 -- No count of a table's messages exceeds a bound: a period raises it by one, and no request does.
+-- For the law of runs, which has no proof yet: what nothing names here is wanted there.
 use Rattle.std.proofs.Common.{◌≡◌, ℕ, zero, suc, ◌+◌, ◌^◌, ◌<◌, ◌≤◌, max, Bool, true, false, cond, ◌⊎◌, List, [], ◌∷◌, ◌++◌, map, length, get_or, set, Some, None, Option, refl, ap, inl, inr, arith}
 use Rattle.std.specs.List.{AllZip, AllByRecursion}
 use Rattle.std.proofs.ByRecursion.{All-from_get_or}

@@ -1,5 +1,7 @@
 -- The lists of a reply, read at one cell: a cell stands in a list as what came of the request there says, and nowhere else.
+-- For the law of runs, which has no proof yet: what nothing names here is wanted there.
 use Rattle.std.proofs.Common.{◌≡◌, ℕ, zero, suc, ◌+◌, ◌*◌, ◌/◌, ◌%◌, ◌<◌, ◌≤◌, Bool, true, false, cond, not, ◌&&◌, ◌||◌, eqb, ltb, List, [], ◌∷◌, map, length, get_or, is_some, Some, None, Decides, filter, Option, unwrap_or, sym, refl, ap, ◌∙◌, inl, inr, arith}
+use Rattle.std.proofs.Math.Bool.{or-false}
 use Rattle.std.proofs.lemmas.Bool.{eqb-true, ltb-false, eq-eqb, or_from, or_left, or_right, and_from, cond-true, cond-false, both_ways, cases_Bool}
 use Rattle.std.proofs.lemmas.Bool.Decides.{same_from_decides, Decides-eqb, Decides-and, Decides-like}
 use Rattle.answering.specs.Replies.{begun_list, completed_list, failed_list, entry_of}
@@ -207,6 +209,7 @@ failed_some cells (Some o) = go o.cause
     go None = refl
     go (Some c) = refl
 
+-- kept: the one of elements does not end in + 0
 two_back : (n : ℕ) → n / 256 * 256 + n % 256 + 0 ≡ n
 two_back n = omega arith
 
@@ -279,10 +282,6 @@ every_listed [] k l = absurd (omega arith)
 every_listed (c ∷ cs) zero l = or_left _ _ (and_from _ _ (eq-eqb c.identity.lac c.identity.lac refl) (eq-eqb c.identity.ci c.identity.ci refl))
 every_listed (c ∷ cs) (suc k) l = or_right _ _ (every_listed cs k (omega arith))
 
-or_false : (b : Bool) → (b || false) ≡ b
-or_false true = refl
-or_false false = refl
-
 pub one_listed :
     (cells : List Cell) (j k : ℕ) → Apart cells → j < length cells → k < length cells → is_listed (identities cells k) (entry_at cells j ∷ []) ≡ eqb k j
-one_listed cells j k apart lj lk = or_false (means (identities cells k) (identity_at cells j)) ∙ same_cell cells k j apart lk lj
+one_listed cells j k apart lj lk = or-false (means (identities cells k) (identity_at cells j)) ∙ same_cell cells k j apart lk lj

@@ -6,7 +6,8 @@ use Rattle.std.specs.List.{AllByRecursion}
 use Rattle.elements.specs.declared.faults.EntryFault.{EntryFault}
 use Rattle.elements.specs.declared.faults.ElementFault.{ElementFault}
 use Rattle.elements.specs.Faults.{out_of_range}
-use Rattle.elements.specs.Octets.{Octets, two, two_at, then, raised}
+use Rattle.cbsp.specs.Octets.{two_at}
+use Rattle.elements.specs.Octets.{Octets, two, then, raised}
 use Rattle.elements.specs.Codec.{BodyLaws}
 use Rattle.elements.proofs.Standing.{when_ok, then_ok, same_ok, not_ok, raised_ok, two_stands, octet_stands, Stands, two_here, octets_take}
 use Rattle.lists.specs.Cells.{form_of}

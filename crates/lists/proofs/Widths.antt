@@ -5,6 +5,7 @@ use Rattle.std.proofs.lemmas.List.{flat_map_more}
 use Rattle.lists.specs.Entries.{Entry, Kind, entry_fits, spell_entry, spell_entries}
 use Rattle.lists.specs.Lists.{led_by, every}
 
+-- kept: the one of the standard library is private
 and_assoc : (a b c : Bool) → ((a && b) && c) ≡ (a && (b && c))
 and_assoc true b c = refl
 and_assoc false b c = refl

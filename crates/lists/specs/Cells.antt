@@ -1,7 +1,8 @@
 -- How an entry names cells, in octets.
 use Rattle.std.specs.Prelude.{ℕ, ◌+◌, cond, List, [], ◌∷◌, ◌++◌, Ok, Err, Result, ◌==◌, nat_le, slice_index}
 use Rattle.elements.specs.declared.faults.EntryFault.{EntryFault}
-use Rattle.elements.specs.Octets.{two, two_at}
+use Rattle.cbsp.specs.Octets.{two_at}
+use Rattle.elements.specs.Octets.{two}
 use Rattle.lists.specs.declared.cell.CellIdentity.{CellIdentity}
 use Rattle.lists.specs.declared.cell.CellIdentity.TheVariants.{LacCi, Ci, Lac, All}
 

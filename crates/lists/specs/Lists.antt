@@ -3,7 +3,8 @@ use Rattle.std.specs.Prelude.{ℕ, ◌+◌, Bool, true, false, cond, ◌&&◌, L
 use Rattle.elements.specs.declared.faults.ElementFault.{ElementFault}
 use Rattle.elements.specs.declared.faults.ElementFault.TheVariants.{RunsPast, OutOfRange}
 use Rattle.elements.specs.Faults.{out_of_range}
-use Rattle.elements.specs.Octets.{two, two_at, then, raised}
+use Rattle.cbsp.specs.Octets.{two_at}
+use Rattle.elements.specs.Octets.{two, then, raised}
 use Rattle.elements.specs.Elements.{within}
 use Rattle.elements.specs.Codec.{Body}
 use Rattle.lists.specs.Cells.{form_of}

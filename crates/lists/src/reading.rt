@@ -84,7 +84,7 @@ pub fn end_of(reader: &Reader<'_>, start: usize) -> Result<usize, ElementFault>
     if left < 2 {
         return Err(ElementFault::RunsPast(start));
     }
-    let count = two_at(reader.octets, reader.at) as usize;
+    let count = usize::from(two_at(reader.octets, reader.at));
     if left - 2 < count {
         return Err(ElementFault::RunsPast(start));
     }

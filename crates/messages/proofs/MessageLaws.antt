@@ -6,10 +6,10 @@ use Rattle.cbsp.specs.declared.message_type.MessageType.TheVariants as type
 use Rattle.cbsp.specs.declared.refusal.Refusal.{Refusal}
 use Rattle.cbsp.specs.Framing.{announced}
 use Rattle.cbsp.specs.Types.{type_code, type_of}
-use Rattle.elements.specs.declared.faults.Fault.{Fault}
 use Rattle.elements.specs.Octets.{Octets, Told, then, raised, three}
 use Rattle.elements.specs.Whole.{headed, taken}
-use Rattle.elements.proofs.Standing.{cond_was, then_ok, same_ok, not_ok, raised_ok, when_ok}
+use Rattle.elements.proofs.Whole.{taken_ok}
+use Rattle.elements.proofs.Standing.{cond_was, then_ok, not_ok, raised_ok, when_ok}
 use Rattle.elements.proofs.Codings.{step, last}
 use Rattle.requests.specs.Requests.{RequestV, read_request, request_type, request_fits, spell_request}
 use Rattle.requests.specs.Requests as ask
@@ -48,10 +48,6 @@ type_there o v e =
     step type_code type.KeepAlive o 22 _ v refl e (λ e.
     step type_code type.KeepAliveComplete o 23 _ v refl e (λ e.
     last type_code o v e)))))))))))))))))))))))
-
-taken_ok : {V W : Type 0} (make : V → W) (r : Result V Fault) (m : W) → taken make r ≡ Ok m → (v : V) × (r ≡ Ok v) × (make v ≡ m)
-taken_ok make (Ok v) m e = (v, refl, same_ok _ _ e)
-taken_ok make (Err f) m e = absurd (not_ok _ _ e)
 
 -- a number of three octets
 three_octets : (a b c n : ℕ) → b < 256 → c < 256 → n ≡ a * 65536 + b * 256 + c → three n ≡ a ∷ b ∷ c ∷ []
@@ -139,13 +135,14 @@ whole_back t xs h =
     let a : announced (headed t xs) ≡ length (headed t xs) = omega (arith, three_back (length xs)) in
     rw (le-ltb 2048 (length (headed t xs)) h, le-ltb (length (headed t xs)) 4 (omega arith), eq-eqb (announced (headed t xs)) (length (headed t xs)) a)
 
-message_back : (m : MessageV) → InRange m → read_message (spell m) ≡ Ok m
-message_back m i =
-    ap (λ (r : Result (Unit {0}) Refusal). then (raised Refused r) (λ _. raised Faulty (read_framed (spell m)))) (whole_back (type_code (message_type m)) (spell_elements m) i.short)
-    ∙ ap (raised Faulty) (framed_back m i.fit)
+-- a message in range is read back
+pub read_back : (m : MessageV) → fits m ≡ true → length (spell m) ≤ 2048 → read_message (spell m) ≡ Ok m
+read_back m f h =
+    ap (λ (r : Result (Unit {0}) Refusal). then (raised Refused r) (λ _. raised Faulty (read_framed (spell m)))) (whole_back (type_code (message_type m)) (spell_elements m) h)
+    ∙ ap (raised Faulty) (framed_back m f)
 
 pub round_trip : RoundTrip
-round_trip = (message_forth, message_back)
+round_trip = (message_forth, λ m i. read_back m i.fit i.short)
 
 pub spelt_from :
     (os : List ℕ) (r : Result Message Unread) → Octets os → Told message_meant r (read_message os) → IfOk r (λ m. (os ≡ spell (message_meant m)) × InRange (message_meant m))

@@ -1,6 +1,6 @@
 -- Pages read and written one by one.
-use Rattle.std.proofs.Common.{◌≡◌, ℕ, zero, suc, ◌+◌, ◌-◌, ◌*◌, ◌<◌, ◌≤◌, true, leb, List, [], ◌∷◌, ◌++◌, length, map, get_or, take, drop, Some, None, Ok, Err, Option, Result, Bor, sym, refl, ap, ◌∙◌, inl, inr, append_assoc, arith}
-use Rattle.std.proofs.lemmas.Bool.{leb-true, and_parts}
+use Rattle.std.proofs.Common.{◌≡◌, ℕ, zero, suc, ◌+◌, ◌-◌, ◌*◌, ◌<◌, ◌≤◌, leb, List, [], ◌∷◌, ◌++◌, length, map, get_or, take, drop, Some, None, Ok, Err, Option, Result, Bor, sym, refl, ap, ◌∙◌, inl, inr, append_assoc, arith}
+use Rattle.std.proofs.lemmas.Bool.{leb-true}
 use Rattle.std.proofs.lemmas.List.{drop-drop, drop-take, drop_all, take_rest, take-take, get_or-take, get_or-drop}
 use Rattle.std.specs.List.{flat_map}
 use Rattle.std.specs.Option.{unwrap_or}
@@ -14,10 +14,10 @@ use Rattle.elements.specs.Faults.{to_message}
 use Rattle.elements.specs.Octets.{then, raised}
 use Rattle.elements.specs.Writes.{Room, Writes}
 use Rattle.elements.proofs.Laws.{found}
-use Rattle.elements.proofs.Progress.{Progress, progress_none, progress_room, progress_more, progress_all}
+use Rattle.elements.proofs.Progress.{Progress, progress_more}
 use Rattle.elements.proofs.Standing.{when_ok, then_ok, same_ok, not_ok, raised_ok}
 use Rattle.pages.specs.declared.page.Page.{Page}
-use Rattle.pages.specs.Pages.{ahead, each, read_times, page, page_at, read_page, whole_page}
+use Rattle.pages.specs.Pages.{ahead, read_times, page, page_at, read_page, whole_page}
 
 -- values before values
 abbrev pub ahead_all : {V : Type 0} → List V → Result (List V × ℕ) Fault → Result (List V × ℕ) Fault
@@ -27,10 +27,6 @@ ahead_all vs (Err f) = Err f
 after : {V : Type 0} (vs : List V) (v : V) (r : Result (List V × ℕ) Fault) → ahead_all vs (ahead v r) ≡ ahead_all (vs ++ v ∷ []) r
 after vs v (Ok p) = rw append_assoc
 after vs v (Err f) = refl
-
-ahead_none : (r : Result (List Page × ℕ) Fault) → ahead_all [] r ≡ r
-ahead_none (Ok p) = refl
-ahead_none (Err f) = refl
 
 -- a page that was read stands at its place
 sought_page :
@@ -91,11 +87,6 @@ pub record SoFar (os : List ℕ) (start count n at : ℕ) : Type 0 where
   pub place : at ≡ start + 84 * n
   pub room : 84 * n ≤ length os - start
 
-pub sofar_none : (os : List ℕ) (start count : ℕ) → SoFar os start count 0 start
-sofar_none os start count =
-    let z : count - 0 ≡ count = omega arith in
-    record { done = []; reads = rw z (ahead_none (read_times page os count start)); gives = rw z refl; place = omega arith; room = omega arith }
-
 module _ (os : List ℕ) (start count n at : ℕ) (s : SoFar os start count n at) where
   pub sofar_done : n ≡ count → read_times page os count start ≡ Ok (pages_of os start count, at)
   unfolding read_times
@@ -135,20 +126,9 @@ pub record Putting (all rest : List Page) (was is : Writer) : Type 0 where
   pub progress : Progress page.spell all rest was.at was.out.now is.out.now is.at
   pub lender : is.out.ghost_name ≡ was.out.ghost_name
 
-pub putting_none : (all : List Page) (w : Writer) → Putting all all w w
-putting_none all w = record { progress = progress_none page.spell all w.at w.out.now; lender = refl }
-
 module _ (all rest left : List Page) (p : Page) (was is : Writer) (e : rest ≡ p ∷ left) (s : Putting all rest was is) where
-  pub putting_room : Room (flat_map page.spell all) was → is.at + length (page.spell p) ≤ was.at + length (flat_map page.spell all)
-  putting_room h = progress_room page.spell all rest left p was.at was.out.now is.out.now is.at e s.progress
-
   pub putting_more : (then : Writer) → Room (flat_map page.spell all) was → Writes (page.spell p) is then → Putting all left was then
   putting_more then h w = record {
     progress = progress_more page.spell all rest left p was.at was.out.now is.out.now is.at e s.progress then.out.now then.at h (record { octets = w.octets; place = w.place });
     lender = w.lender ∙ s.lender;
   }
-
-pub putting_all : (all rest : List Page) (was is : Writer) → rest ≡ [] → Putting all rest was is → Writes (flat_map page.spell all) was is
-putting_all all rest was is e s =
-    let w = progress_all page.spell all rest was.at was.out.now is.out.now is.at e s.progress in
-    record { lender = s.lender; octets = w.octets; place = w.place }

@@ -3,7 +3,7 @@ ghost use Rattle.elements.specs.Writes.{Room, Writes};
 ghost use Rattle.pages.specs.Pages.{page_body};
 ghost use Rattle.pages.specs.declared.page.Page.{Page as OnePage};
 
-use crate::page::{Page, page_at};
+use crate::page::{PAGE_BODY, PAGE_CONTENT, Page, page_at};
 use elements::element::{Element, Identified};
 use elements::faults::ElementFault;
 use elements::reader::Reader;
@@ -27,19 +27,20 @@ impl<'a> Element<'a> for MessageContent {
     ghost body = { page_body };
 
     fn read(reader: &mut Reader<'a>, start: usize) -> Result<Page, ElementFault> {
-        if reader.left() < 83 {
+        if reader.left() < PAGE_BODY {
             return Err(ElementFault::RunsPast(start));
         }
         let page = page_at(reader.octets, reader.at);
-        if !(1..=82).contains(&page.used) {
+        if !(1..=PAGE_CONTENT).contains(&usize::from(page.used)) {
             return Err(ElementFault::OutOfRange(reader.at));
         }
-        reader.at += 83;
+        reader.at += PAGE_BODY;
         Ok(page)
     }
 
     fn width(value: Page) -> Option<usize> {
-        (1..=82).contains(&value.used).then_some(83)
+        let used = usize::from(value.used);
+        (1..=PAGE_CONTENT).contains(&used).then_some(PAGE_BODY)
     }
 
     // Also one that is out of range.

@@ -8,6 +8,7 @@ use cbsp::limits::MOST_PAGES;
 use elements::element::Element;
 
 // How many pages there are, nothing where there is none, there are more than fifteen, or one is out of range.
+// An if, no then_some: of that one the check finds no proof.
 pub fn page_count(pages: Pages<'_>) -> Option<usize>
     ensures { result ≡ page_count (pages_meant pages.entry) }
 {

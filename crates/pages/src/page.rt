@@ -6,6 +6,12 @@ use cbsp::limits;
 
 pub const PAGE_CONTENT: usize = limits::PAGE_CONTENT;
 
+// How many of them are in use, and the content.
+pub(crate) const PAGE_BODY: usize = 1 + PAGE_CONTENT;
+
+// The identifier of the element, and that.
+pub(crate) const PAGE_ELEMENT: usize = 1 + PAGE_BODY;
+
 #[derive(Clone, Copy, PartialEq, Eq, Debug)]
 pub struct Page {
     pub used: u8,
@@ -14,13 +20,13 @@ pub struct Page {
 }
 
 // The page whose length stands at a place. No From: a slice and a place, of which the contract says that 83
-// octets stand there.
+// octets stand there. The content is copied into an array: one made of the slice would be a Result to unwrap.
 pub(crate) fn page_at(octets: &[u8], body: usize) -> Page
     requires { body + 83 ≤ length octets.now }
     ensures { result ≡ page_at octets.now body }
 {
     let used = octets[body];
     let mut content = [0; PAGE_CONTENT];
-    content.copy_from_slice(&octets[body + 1..body + 83]);
+    content.copy_from_slice(&octets[body + 1..body + PAGE_BODY]);
     Page { used, content }
 }

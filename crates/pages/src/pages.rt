@@ -2,13 +2,13 @@
 ghost use Rattle.std.specs.Iterator.{YieldsFirst, item_count};
 ghost use Rattle.pages.specs.Pages.{pages_meant};
 
-use crate::page::{Page, page_at};
+use crate::page::{PAGE_ELEMENT, Page, page_at};
 
-// Whole elements of a message, each 84 octets, or a slice of pages. No Entries: pages have one width, so that
+// Whole elements of a message, or a slice of pages. No Entries: pages have one width, so that
 // those of a message are a slice of arrays, and only an entry needs a reader.
 #[derive(Clone, Copy)]
 pub enum Pages<'a> {
-    Read(&'a [[u8; 84]]),
+    Read(&'a [[u8; PAGE_ELEMENT]]),
     Given(&'a [Page]),
 }
 

@@ -9,7 +9,7 @@ ghost use Rattle.pages.specs.declared.page.Page.{Page as OnePage};
 
 use crate::content::MessageContent;
 use crate::measuring::page_count;
-use crate::page::Page;
+use crate::page::{PAGE_ELEMENT, Page};
 use crate::pages::Pages;
 use elements::element::{Element, Identified};
 use elements::elements::{Elements, Must};
@@ -67,13 +67,13 @@ impl<'a> Elements<'a> for Text {
     fn read(reader: &mut Reader<'a>) -> Result<(u8, Pages<'a>), Fault> {
         let count = Must::<NumberOfPages>::read(reader)?;
         let coding = Must::<DataCodingScheme>::read(reader)?;
-        let pages = read_pages(reader, count as usize)?;
+        let pages = read_pages(reader, usize::from(count))?;
         Ok((coding, pages))
     }
 
     fn width(value: (u8, Pages<'a>)) -> Option<usize> {
         let count = page_count(value.1)?;
-        Some(4 + 84 * count)
+        Some(4 + PAGE_ELEMENT * count)
     }
 
     fn put(writer: &mut Writer<'_>, value: (u8, Pages<'a>)) {

@@ -1,4 +1,5 @@
 -- A loop that changes the elements of a list one after the other.
+-- A loop here changes the rows and the site together, and no chain of the library is proved of such a loop.
 use Rattle.std.proofs.Common.{◌≡◌, ℕ, ◌+◌, ◌<◌, List, [], ◌∷◌, ◌++◌, length, get_or, take, drop, set, sym, refl, ap, ◌∙◌, subst, add-zero, arith}
 use Rattle.std.proofs.lemmas.List.{take_more, take_more_set, drop-set-lt, drop-drop, get_or-drop, length-take-le}
 use Rattle.rows.specs.Linked.{Linked}

@@ -1,8 +1,9 @@
 -- A loop over elements that are told by a function of them, as the cells are by their messages.
-use Rattle.std.proofs.Common.{◌≡◌, ℕ, ◌+◌, ◌<◌, ◌≤◌, List, map, length, get_or, take, drop, set, sym, ◌∙◌, subst, arith}
+-- A loop here changes the rows and the site together, and no chain of the library is proved of such a loop.
+use Rattle.std.proofs.Common.{◌≡◌, ℕ, ◌+◌, ◌<◌, List, map, length, get_or, take, drop, set, sym, ◌∙◌, subst, arith}
 use Rattle.std.specs.List.{AllByRecursion}
 use Rattle.std.proofs.ByRecursion.{All-get_or}
-use Rattle.std.proofs.lemmas.List.{length-map, map-set, get_or-map, take_all}
+use Rattle.std.proofs.lemmas.List.{length-map, map-set, get_or-map}
 use Rattle.rows.specs.Linked.{Linked}
 use Rattle.rows.proofs.Linking.{same_at, rest_more, linked_more}
 
@@ -24,8 +25,3 @@ module _ {A X : Type 0} (f : A → X) (cs ds : List A) (i : ℕ) (d : A) (e : X)
       let within : i < length (map f cs) = rw length-map l in
       let same : length (map f ds) ≡ length (map f cs) = length-map ds f ∙ long ∙ sym (length-map cs f) in
       rw map-set (linked_more R (map f cs) (map f ds) i e (f x) s u t within same rest a (subst (λ (y : X). R i y u (f x) t) (sym (get_or-map f ds i d e (omega arith))) b))
-
--- all had their turns
-pub linked_end : {A X S : Type 0} (f : A → X) (cs ds : List A) (i : ℕ) (R : ℕ → X → S → X → S → Type 0) (s t : S) → length cs ≤ i → length ds ≡ length cs → Linked R 0 (take i (map f cs)) s (take i (map f ds)) t → Linked R 0 (map f cs) s (map f ds) t
-linked_end f cs ds i R s t le long a =
-    rw (take_all i (map f cs) (rw length-map le), take_all i (map f ds) (rw length-map (omega arith))) at a

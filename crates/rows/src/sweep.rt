@@ -15,7 +15,7 @@ use site::message::CbsMessage;
 fn is_due(row: &Row) -> bool
     ensures { result ≡ due row.now }
 {
-    row.wait == 0 && (row.requested == 0 || row.count < row.requested as u64)
+    row.wait == 0 && (row.requested == 0 || row.count < u64::from(row.requested))
 }
 
 // What goes out for a message. Past the contents a message without pages: no row of a table has such a slot,

@@ -1,4 +1,5 @@
 // The pages of a message: their octets, and their text where it is plain.
+// Clone and Copy alone: what is told here is made, printed and never compared.
 ghost use Rattle.std.specs.Prelude.{◌+◌, ◌*◌, ◌/◌, ◌<◌, ◌≤◌, length};
 ghost use Rattle.std.specs.Iterator.{at_most};
 

@@ -1,4 +1,5 @@
 // Values of elements, as they stand in lines.
+// Clone and Copy alone: what is told here is made, printed and never compared.
 use cbsp::keep_alive::seconds;
 use cbsp::serial::serial_code;
 use elements::cause::Cause;

@@ -1,4 +1,5 @@
 // List elements, an entry to a line, with the number of the cell where the cell file has it.
+// Clone and Copy alone: what is told here is made, printed and never compared.
 use crate::element_lines::NamedCause;
 use crate::lines::Lines;
 use cells::cell::Cell;

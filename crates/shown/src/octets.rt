@@ -1,4 +1,5 @@
 // Octets in hexadecimal.
+// Clone and Copy alone: what is told here is made, printed and never compared.
 use std::fmt;
 
 // Octets, each between two texts.

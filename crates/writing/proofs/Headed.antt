@@ -1,8 +1,9 @@
 -- A header and elements, written one after the other from the start of a space.
-use Rattle.std.proofs.Common.{◌≡◌, ℕ, ◌+◌, ◌≤◌, Bool, true, leb, List, [], ◌∷◌, ◌++◌, length, Some, sym, ap, ◌∙◌, subst, arith}
+use Rattle.std.proofs.Common.{◌≡◌, ℕ, ◌+◌, ◌≤◌, Bool, true, leb, List, ◌∷◌, ◌++◌, length, Some, sym, ◌∙◌, subst, arith}
 use Rattle.std.proofs.lemmas.Bool.{and_from, le-leb}
 use Rattle.elements.specs.declared.writer.Writer.{Writer}
-use Rattle.elements.specs.Octets.{Wrote, one, put, three}
+use Rattle.cbsp.specs.Octets.{put}
+use Rattle.elements.specs.Octets.{Wrote, one, three}
 use Rattle.elements.specs.Whole.{headed}
 use Rattle.elements.specs.Writes.{Writes, limited}
 use Rattle.elements.proofs.Appending.{limited_some, writes_then}

@@ -67,7 +67,8 @@ pub fn message_type(message: Message<'_>) -> MessageType
     }
 }
 
-// Writes a header and the elements behind it, measured first.
+// Writes a header and the elements behind it, measured first. let .. else, no ok_or: the proofs of the answers
+// read that there is a width.
 fn write_elements<'a, E: Elements<'a>>(
     out: &mut [u8],
     kind: MessageType,

@@ -22,7 +22,7 @@ impl Store {
         let Some(slot) = slot else {
             return;
         };
-        if let Some(content) = self.contents.get_mut(slot as usize) {
+        if let Some(content) = self.contents.get_mut(usize::from(slot)) {
             store(content, coding, pages);
         }
     }

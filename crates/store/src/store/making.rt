@@ -17,7 +17,7 @@ use rows::rows::Rows;
 use std::alloc::{AllocError, Global};
 use table::write::SLOTS;
 
-// The contents that serve a table.
+// The contents that serve a table. as: a const can't call From.
 const CONTENTS: usize = SLOTS as usize;
 
 // A cell as a Cell List names it. No From: neither type is of this crate.

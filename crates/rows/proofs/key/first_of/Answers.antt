@@ -4,6 +4,7 @@ use Rattle.std.proofs.lemmas.Iterator.Search.{find_from_yields_List}
 use Rattle.rows.specs.Keys.{is_same}
 use Rattle.rows.proofs.key.first_of.Goals as goal
 
+-- kept: without it the check does not close
 pub returns : goal.returns
 returns c =
     let first =

@@ -1,18 +1,8 @@
-use Rattle.std.proofs.Common.{◌^◌, ◌<◌, map, refl, arith}
-use Rattle.std.proofs.lemmas.List.{take_all}
+use Rattle.std.proofs.Common.{map}
 use Rattle.rows.specs.Sweep.{Turn, lowered}
 use Rattle.rows.specs.Texts.{text_of}
 use Rattle.rows.proofs.Linking.{linked_more, rest_more}
-use Rattle.rows.proofs.Turning.{all_at}
 use Rattle.rows.proofs.sweep.serve.Goals as goal
-
-pub loop-row-init : goal.loop-row-init
-loop-row-init g c = (refl, refl)
-
-pub take_turn-requires : goal.take_turn-requires
-take_turn-requires g c =
-    all_at (λ r. r.count < 2 ^ 63) c.args.rows.now c.loop-row.rows c.loop-row.row-index _ c.loop-row-test.true c.loop-row.invariant.1
-    c.requires
 
 pub loop-row-preserved : goal.loop-row-preserved
 loop-row-preserved g c =
@@ -24,8 +14,3 @@ loop-row-preserved g c =
           c.take_turn.ensures,
       rest_more xs ys i c.take_turn.new.row c.loop-row.invariant.1,
     )
-
-pub returns : goal.returns
-returns g c =
-    let i = c.loop-row.row-index in
-    rw (take_all i c.args.rows.now (omega arith), take_all i c.loop-row.rows (omega arith)) at c.loop-row.invariant.0

@@ -1,14 +1,11 @@
-use Rattle.std.proofs.Common.{◌^◌, ◌<◌, List, [], map, refl}
+use Rattle.std.proofs.Common.{◌^◌, ◌<◌, List, [], map}
 use Rattle.std.specs.List.{AllByRecursion}
 use Rattle.rows.specs.declared.row.Row.{Row}
 use Rattle.rows.specs.Held.{rows_of}
 use Rattle.rows.specs.Sweep.{Turns}
 use Rattle.rows.specs.Texts.{text_of}
-use Rattle.rows.proofs.Turning.{told_all_at, told_rest, told_more, linked_end}
+use Rattle.rows.proofs.Turning.{told_all_at, told_rest, told_more}
 use Rattle.rows.proofs.sweep.serve_all.Goals as goal
-
-pub loop-cell-init : goal.loop-cell-init
-loop-cell-init g c = (refl, refl)
 
 pub serve-requires : goal.serve-requires
 serve-requires g c =
@@ -25,9 +22,3 @@ loop-cell-preserved g c =
           c.serve.ensures,
       told_rest rows_of cs ds i c.index-cells-cell.result [] c.loop-cell-test.true c.loop-cell.auto.cells c.loop-cell.invariant.1 c.serve.new.self,
     )
-
-pub returns : goal.returns
-returns g c =
-    linked_end rows_of c.args.cells.now c.loop-cell.cells c.loop-cell.cell
-    (Turns g.S.Site.model g.S.Site.steps (map text_of c.args.contents.now)) c.args.site.now _ c.loop-cell-test.false c.loop-cell.auto.cells
-    c.loop-cell.invariant.0

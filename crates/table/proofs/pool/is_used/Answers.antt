@@ -10,6 +10,7 @@ list_any-map : {X Y : Type 0} (test : Y → Bool) (f : X → Y) (xs : List X) �
 list_any-map test f [] = refl
 list_any-map test f (x ∷ xs) = ap (λ (b : Bool). test (f x) || b) (list_any-map test f xs)
 
+-- kept: without it the check does not close
 pub returns : goal.returns
 returns c =
     any_from_yields_List (λ cell. holds c.args.slot (rows_of cell)) _ _ _ c.any.ensures.ran (YieldsList-from_slice c.args.cells.now cc)

@@ -4,6 +4,7 @@ use Rattle.rows.specs.Held.{rows_of}
 use Rattle.store.proofs.Making.{filled, map_same}
 use Rattle.store.proofs.store.making.no_rows.Goals as goal
 
+-- kept: without it the check does not close
 pub returns-clause-rows : goal.returns-clause-rows
 returns-clause-rows c =
     let none : List Row = [] in
