@@ -2,7 +2,8 @@
  *
  * Reading: all of a message, every entry of its lists and every page included. libosmogsm's decoder makes a list in memory, which is freed
  * again; Yamgimlet's reader checks the octets and gives the entries where they stand. Writing: from a value to octets; libosmogsm makes
- * a message buffer, which is freed again, Yamgimlet writes into the same space each time. */
+ * a message buffer, which is freed again, Yamgimlet writes into the same space each time, from a message that was read, whose entries and
+ * pages stand in its octets, and from the same in memory, as a controller has them. */
 #include <stdint.h>
 #include <stdio.h>
 #include <stdlib.h>
@@ -15,6 +16,7 @@
 
 uint32_t bench_read(const uint8_t *octets, size_t count);
 uint32_t bench_write(const uint8_t *octets, size_t count, uint8_t *out, size_t room, uint32_t rounds);
+uint32_t bench_write_given(const uint8_t *octets, size_t count, uint8_t *out, size_t room, uint32_t rounds);
 
 enum { LONGEST = 2048, TURNS = 7 };
 
@@ -137,12 +139,24 @@ static void ours_read(struct sample *s, uint32_t rounds)
         sink += bench_read(s->octets, s->count);
 }
 
+static void check_written(struct sample *s, const uint8_t *out)
+{
+    if (memcmp(out, s->octets, s->count) != 0)
+        fprintf(stderr, "%s: Yamgimlet writes other octets\n", s->name);
+}
+
 static void ours_write(struct sample *s, uint32_t rounds)
 {
     static uint8_t out[LONGEST];
     sink += bench_write(s->octets, s->count, out, sizeof out, rounds);
-    if (memcmp(out, s->octets, s->count) != 0)
-        fprintf(stderr, "%s: Yamgimlet writes other octets\n", s->name);
+    check_written(s, out);
+}
+
+static void ours_write_given(struct sample *s, uint32_t rounds)
+{
+    static uint8_t out[LONGEST];
+    sink += bench_write_given(s->octets, s->count, out, sizeof out, rounds);
+    check_written(s, out);
 }
 
 static struct msgb *buffer(struct sample *s)
@@ -207,9 +221,9 @@ static double least(void (*work)(struct sample *, uint32_t), struct sample *s)
 static void compare(struct sample *s)
 {
     double read = least(ours_read, s), their_read = least(theirs_read, s);
-    double write = least(ours_write, s), their_write = least(theirs_write, s);
-    printf("%-38s %6zu %9.0f %9.0f %7.1f %9.0f %9.0f %7.1f\n", s->name, s->count, read, their_read, their_read / read, write,
-           their_write, their_write / write);
+    double write = least(ours_write, s), given = least(ours_write_given, s), their_write = least(theirs_write, s);
+    printf("%-38s %6zu %9.0f %9.0f %7.1f %9.0f %9.0f %9.0f %7.1f %7.1f\n", s->name, s->count, read, their_read, their_read / read, write,
+           given, their_write, their_write / write, their_write / given);
     if (!s->same)
         printf("  (libosmogsm writes it to other octets than it read)\n");
 }
@@ -218,7 +232,9 @@ int main(void)
 {
     struct sample s;
     printf("nanoseconds per message; ratio: libosmogsm's by Yamgimlet's\n");
-    printf("%-38s %6s %9s %9s %7s %9s %9s %7s\n", "message", "octets", "reading", "osmogsm", "ratio", "writing", "osmogsm", "ratio");
+    printf("%-38s %6s %9s %9s %7s %9s %9s %9s %7s %7s\n", "", "", "", "", "", "writing", "writing", "", "ratio,", "ratio,");
+    printf("%-38s %6s %9s %9s %7s %9s %9s %9s %7s %7s\n", "message", "octets", "reading", "osmogsm", "ratio", "read", "given", "osmogsm", "read",
+           "given");
     write_replace(&s, "WRITE-REPLACE, 1 page, 1 cell", 20000, 1, 1);
     compare(&s);
     write_replace(&s, "WRITE-REPLACE, 15 pages, 64 cells", 4000, 15, 64);

@@ -1,16 +1,19 @@
 // What the benchmark calls from C: messages read with all that is in them, and written.
 #![tactic(auto)]
 
-ghost use Rattle.std.specs.Iterator.{IsFinite};
+ghost use Rattle.std.specs.Prelude.{◌-◌, ◌^◌};
+ghost use Rattle.std.specs.Iterator.{IsFinite, UpTo};
 
 use answers::answer::{Answer, Done, KillComplete};
+use cbsp::limits::{MOST_NAMED, MOST_PAGES};
 use lists::cell::CellIdentity;
 use lists::cells::Cells;
 use lists::entries::Entries;
 use lists::kinds::{CellEntry, CompletedEntry};
 use messages::message::Message;
 use messages::reading::read_message;
-use requests::request::Request;
+use pages::pages::Pages;
+use requests::request::{Request, WriteReplace};
 use writing::writing::write_message;
 
 // The cell of its Cell List.
@@ -63,15 +66,15 @@ pub extern "C" fn bench_read(octets: &[u8]) -> u32 {
     read_message(octets).map_or(0, walk)
 }
 
-// Entries put into a space, as many as there is room for.
-fn gather<'a>(
-    entries: Entries<'_, CompletedEntry>,
-    space: &'a mut [CompletedEntry],
-) -> &'a [CompletedEntry] {
-    let count = entries.count().min(space.len());
+// Items put into a space, as many as there is room for.
+fn gather<'a, T: Drop, I: Iterator<Item = T> + Copy>(items: I, space: &'a mut [T]) -> &'a [T]
+    requires can { I.can_next items × IsFinite (I.remaining items) }
+    requires few { UpTo (I.remaining items) (2 ^ 64 - 1) }
+{
+    let count = items.count().min(space.len());
     let given = &mut space[..count];
-    for (place, entry) in given.iter_mut().zip(entries) {
-        *place = entry;
+    for (place, item) in given.iter_mut().zip(items) {
+        *place = item;
     }
     given
 }
@@ -82,8 +85,8 @@ fn write_again(out: &mut [u8], message: Message<'_>, rounds: u32) -> Option<usiz
     written.last().flatten()
 }
 
-// The same of the benchmark's KILL COMPLETE, whose entries are put into a slice first, as a controller has them.
-fn write_gathered(out: &mut [u8], ended: KillComplete<'_>, rounds: u32) -> Option<usize> {
+// The same of a KILL COMPLETE whose entries are put into a slice first, as a controller has them.
+fn write_completed(out: &mut [u8], ended: KillComplete<'_>, rounds: u32) -> Option<usize> {
     let entries = ended.done.completed?;
     let mut rest = entries;
     let mut space = [rest.next()?; 192];
@@ -96,13 +99,45 @@ fn write_gathered(out: &mut [u8], ended: KillComplete<'_>, rounds: u32) -> Optio
     write_again(out, Message::Answer(Answer::KillComplete(given)), rounds)
 }
 
-// Reads a message once and writes it so many times; the length that was written last, to C 0 where there is none.
+// The same of a WRITE-REPLACE whose entries and pages are put into slices first.
+fn write_given(out: &mut [u8], write: WriteReplace<'_>, rounds: u32) -> Option<usize> {
+    let Cells::Named(entries) = write.cells else {
+        return None;
+    };
+    let mut rest = entries;
+    let mut cells = [rest.next()?; MOST_NAMED];
+    let mut pages_left = write.pages;
+    let mut pages = [pages_left.next()?; MOST_PAGES];
+    let given = WriteReplace {
+        cells: Cells::Named(Entries::Given(gather(entries, &mut cells))),
+        pages: Pages::Given(gather(write.pages, &mut pages)),
+        ..write
+    };
+    write_again(out, Message::Request(Request::WriteReplace(given)), rounds)
+}
+
+// To C the length that was written last is a number, 0 where there is none.
+fn written(last: Option<usize>) -> u32 {
+    last.map_or(0, |length| (length & 0xffff) as u32)
+}
+
+// Reads a message once and writes it so many times, its lists and pages from where they stand.
 #[unsafe(no_mangle)]
 pub extern "C" fn bench_write(octets: &[u8], out: &mut [u8], rounds: u32) -> u32 {
-    let last = match read_message(octets) {
-        Ok(Message::Answer(Answer::KillComplete(ended))) => write_gathered(out, ended, rounds),
+    written(
+        read_message(octets)
+            .ok()
+            .and_then(|message| write_again(out, message, rounds)),
+    )
+}
+
+// The same, its lists and pages from slices.
+#[unsafe(no_mangle)]
+pub extern "C" fn bench_write_given(octets: &[u8], out: &mut [u8], rounds: u32) -> u32 {
+    written(match read_message(octets) {
+        Ok(Message::Answer(Answer::KillComplete(ended))) => write_completed(out, ended, rounds),
+        Ok(Message::Request(Request::WriteReplace(write))) => write_given(out, write, rounds),
         Ok(message) => write_again(out, message, rounds),
         Err(_) => None,
-    };
-    last.map_or(0, |length| (length & 0xffff) as u32)
+    })
 }

@@ -1,5 +1,6 @@
 pub mod Puts
 pub mod Steps
+pub mod Sizing
 pub mod From
 pub mod Forth
 pub mod Back

@@ -1,5 +1,5 @@
 -- The laws of a list element, for every kind.
-use Rattle.std.proofs.Common.{◌≡◌, ℕ, ◌+◌, ◌<◌, ◌≤◌, Bool, true, false, List, [], ◌∷◌, ◌++◌, length, get_or, take, Ok, Result, sym, refl, ap, ◌∙◌, subst, append_assoc, append-nil, le_refl, arith, length-append}
+use Rattle.std.proofs.Common.{◌≡◌, ℕ, ◌+◌, ◌<◌, ◌≤◌, Bool, true, false, List, [], ◌∷◌, ◌++◌, length, get_or, take, Ok, Err, Result, sym, refl, ap, ◌∙◌, subst, append_assoc, append-nil, le_refl, arith, length-append}
 use Rattle.std.proofs.lemmas.Bool.{eqb-true, ltb-true, leb-true, le-leb, lt-ltb, eq-eqb, and_parts, and_from}
 use Rattle.std.proofs.lemmas.List.{take-take, take_at, get_or-append-add, length-take-le}
 use Rattle.std.specs.List.{AllByRecursion}
@@ -13,7 +13,8 @@ use Rattle.elements.proofs.Standing.{when_ok, then_ok, same_ok, not_ok, raised_o
 use Rattle.lists.specs.Cells.{form_of}
 use Rattle.lists.specs.Entries.{Entry, Kind, formed, entry_fits, spell_entry, spell_entries, read_entries}
 use Rattle.lists.specs.Laws.{EntryFits}
-use Rattle.lists.specs.Lists.{end_of, heading, some, read_body, read_list, head_form, led_by, list_octets, lengthed, every, list_fits, entry_list}
+use Rattle.lists.specs.Sizes.{first_fault, ill_sized}
+use Rattle.lists.specs.Lists.{all_entries, end_of, heading, some, read_body, read_list, head_form, led_by, list_octets, lengthed, every, list_fits, entry_list}
 use Rattle.lists.proofs.Forth.{entries_forth}
 use Rattle.lists.proofs.Back.{entries_back, entry_some, fit}
 
@@ -90,6 +91,11 @@ heading_was true forms os body end p l m e =
 abbrev Spelt : Kind → List ℕ → ℕ → List Entry × ℕ → Type 0
 Spelt k os body p = (take p.1 os ≡ take body os ++ lengthed (list_octets k p.0)) × (p.1 ≤ length os) × (list_fits k p.0 ≡ true)
 
+-- entries that are read are so whatever their sizes are
+first_ok : (ill : Bool) (broken : EntryFault) (r : Result (List Entry) EntryFault) (es : List Entry) → first_fault ill broken r ≡ Ok es → r ≡ Ok es
+first_ok ill broken (Ok fs) es e = e
+first_ok ill broken (Err f) es e = absurd (not_ok _ _ e)
+
 pub list_forth : (k : Kind) (os : List ℕ) (at body : ℕ) (p : List Entry × ℕ) → Octets os → read_list k os at body ≡ Ok p → Spelt k os body p
 list_forth k os at body p o e =
     let t = then_ok (end_of os at body) (λ end. then (heading k.headed k.forms os body end) (read_body k os body end)) p e in
@@ -100,10 +106,11 @@ list_forth k os at body p o e =
     let first : ℕ = u.0.1 in
     let l : body + 2 ≤ end = omega arith in
     let a = heading_was k.headed k.forms os body end u.0 l w.2 u.1 in
-    let r = then_ok (raised out_of_range (read_entries k (record { place = body }) h end (take end os) k.most first)) (some body end) p u.2 in
+    let r = then_ok (raised out_of_range (all_entries k os body end u.0)) (some body end) p u.2 in
     let es : List Entry = r.0 in
     let s = some_was body end es p r.2 in
-    let x : read_entries k (record { place = body }) h end (take end os) k.most first ≡ Ok es = raised_ok out_of_range _ es r.1 in
+    let x : read_entries k (record { place = body }) h end (take end os) k.most first ≡ Ok es
+    = first_ok (ill_sized k h end (take end os) k.most first) (record { place = body }) _ es (raised_ok out_of_range _ es r.1) in
     let z : length (take end os) ≡ end = length-take-le end os w.2 in
     let f = entries_forth k (record { place = body }) h end (take end os) k.most first es (octets_take end os o) a.within (omega arith) x in
     let sp : List ℕ = spell_entries k es in
@@ -156,7 +163,7 @@ list_read :
 list_read k os at body end p es a b c =
     ap (λ (r : Result ℕ ElementFault). then r (λ e. then (heading k.headed k.forms os body e) (read_body k os body e))) a
     ∙ ap (λ (r : Result (ℕ × ℕ) ElementFault). then r (read_body k os body end)) b
-    ∙ ap (λ (r : Result (List Entry) EntryFault). then (raised out_of_range r) (some body end)) c
+    ∙ ap (λ (r : Result (List Entry) EntryFault). then (raised out_of_range (first_fault (ill_sized k p.0 end (take end os) k.most p.1) (record { place = body }) r)) (some body end)) c
 
 -- a list of at least one entry, of which the first is e
 list_back :

@@ -20,6 +20,10 @@ cell_octets (Ci c) = two c
 cell_octets (Lac l) = two l
 cell_octets All = 0 ∷ []
 
+-- how many octets these are
+abbrev pub cell_width : ℕ → ℕ
+cell_width form = cond (form == 1) 4 (cond (form == 6) 1 2)
+
 -- the identity at a place, and the place after it; `broken` where it ends past `end`
 abbrev pub read_cell : EntryFault → ℕ → ℕ → List ℕ → ℕ → Result (CellIdentity × ℕ) EntryFault
 read_cell broken form end os at =

@@ -1,6 +1,7 @@
 pub mod Forms
 pub mod Cells
 pub mod Entries
+pub mod Sizes
 pub mod Kinds
 pub mod Views
 pub mod Listed

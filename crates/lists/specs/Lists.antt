@@ -1,6 +1,7 @@
 -- List elements: a length of two octets, the discriminator where the kind has it in the heading, the entries.
 use Rattle.std.specs.Prelude.{ℕ, ◌+◌, Bool, true, false, cond, ◌&&◌, List, [], ◌∷◌, ◌++◌, length, take, Ok, Err, Result, nat_le, nat_lt, slice_index}
 use Rattle.elements.specs.declared.faults.ElementFault.{ElementFault}
+use Rattle.elements.specs.declared.faults.EntryFault.{EntryFault}
 use Rattle.elements.specs.declared.faults.ElementFault.TheVariants.{RunsPast, OutOfRange}
 use Rattle.elements.specs.Faults.{out_of_range}
 use Rattle.cbsp.specs.Octets.{two_at}
@@ -9,6 +10,7 @@ use Rattle.elements.specs.Elements.{within}
 use Rattle.elements.specs.Codec.{Body}
 use Rattle.lists.specs.Cells.{form_of}
 use Rattle.lists.specs.Entries.{Entry, Kind, entry_fits, read_entries, spell_entries}
+use Rattle.lists.specs.Sizes.{first_fault, ill_sized}
 
 -- where a list ends whose length stands at `body`; the element begins at `at`
 abbrev pub end_of : List ℕ → ℕ → ℕ → Result ℕ ElementFault
@@ -31,9 +33,14 @@ abbrev pub some : ℕ → ℕ → List Entry → Result (List Entry × ℕ) Elem
 some body end [] = Err (OutOfRange body)
 some body end (e ∷ es) = Ok (e ∷ es, end)
 
--- a bad entry count and a broken entry are placed at the length
+-- a bad entry count and a broken entry are placed at the length, also where an octet of an entry before it is out of range
+abbrev pub all_entries : Kind → List ℕ → ℕ → ℕ → ℕ × ℕ → Result (List Entry) EntryFault
+all_entries k os body end p =
+    first_fault (ill_sized k p.0 end (take end os) k.most p.1) (record { place = body })
+    (read_entries k (record { place = body }) p.0 end (take end os) k.most p.1)
+
 abbrev pub read_body : Kind → List ℕ → ℕ → ℕ → ℕ × ℕ → Result (List Entry × ℕ) ElementFault
-read_body k os body end p = then (raised out_of_range (read_entries k (record { place = body }) p.0 end (take end os) k.most p.1)) (some body end)
+read_body k os body end p = then (raised out_of_range (all_entries k os body end p)) (some body end)
 
 abbrev pub read_list : Kind → List ℕ → ℕ → ℕ → Result (List Entry × ℕ) ElementFault
 read_list k os at body = then (end_of os at body) (λ end. then (heading k.headed k.forms os body end) (read_body k os body end))

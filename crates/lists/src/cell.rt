@@ -37,12 +37,7 @@ impl CellIdentity {
         ensures value { result ≡ length (cell_octets self) }
         ensures small { result ≤ 4 }
     {
-        match self {
-            CellIdentity::LacCi(_, _) => 4,
-            CellIdentity::Ci(_) => 2,
-            CellIdentity::Lac(_) => 2,
-            CellIdentity::All => 1,
-        }
+        self.form().width()
     }
 
     pub fn put(self, writer: &mut Writer<'_>)

@@ -1,6 +1,7 @@
 // The discriminator of an entry: in which way it names cells.
-ghost use Rattle.std.specs.Prelude.{◌≡◌};
+ghost use Rattle.std.specs.Prelude.{◌≡◌, ◌≤◌};
 ghost use Rattle.cbsp.specs.Decoding.{decoded};
+ghost use Rattle.lists.specs.Cells.{cell_width};
 ghost use Rattle.lists.specs.Forms.{form_code, form_from};
 
 use cbsp::code::UnknownCode;
@@ -11,6 +12,20 @@ pub enum Form {
     Ci = 2,
     Lac = 5,
     All = 6,
+}
+
+impl Form {
+    // How many octets stand for an identity under it.
+    pub fn width(self) -> usize
+        ensures value { result ≡ cell_width (form_code self) }
+        ensures small { result ≤ 4 }
+    {
+        match self {
+            Form::LacCi => 4,
+            Form::Ci | Form::Lac => 2,
+            Form::All => 1,
+        }
+    }
 }
 
 impl From<Form> for u8 {

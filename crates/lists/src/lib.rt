@@ -12,4 +12,5 @@ pub mod laws;
 pub mod list_elements;
 pub mod measuring;
 pub mod reading;
+mod sizes;
 pub mod writing;

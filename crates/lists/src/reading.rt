@@ -19,7 +19,7 @@ use std::marker::PhantomData;
 
 impl ListHead {
     // The discriminator of the entry at the reader's place.
-    fn read_form<E: ListEntry>(self, reader: &mut Reader<'_>) -> Result<Form, EntryFault>
+    pub(crate) fn read_form<E: ListEntry>(self, reader: &mut Reader<'_>) -> Result<Form, EntryFault>
         requires { reader.old.at < length reader.old.octets.now }
         ensures value { Reads form_code reader.old result reader.new (read_form E.ListEntry.kind (form_number self.form) reader.old.octets.now reader.old.at) }
         ensures bound { IfOk result (λ _. (reader.old.at ≤ reader.new.at) × (reader.new.at ≤ length reader.old.octets.now)) }
@@ -133,7 +133,9 @@ pub fn read_list<'a, E: ListEntry + Drop>(
         octets: &reader.octets[..end],
         at: first,
     };
-    let left = head.count_entries::<E>(entries)?;
+    let left = head
+        .count_entries::<E>(entries)
+        .map_err(|fault| head.first_fault::<E>(entries, fault))?;
     if left == 0 {
         return Err(ElementFault::OutOfRange(body));
     }

@@ -16,6 +16,7 @@ use Rattle.lists.specs.CellLists.{CellsV, all, named}
 use Rattle.cbsp.specs.PageParameter.{page_parameter}
 use Rattle.requests.specs.Requests.{ReferenceV, kill, reset, keep_alive, read_request}
 use Rattle.answers.specs.Answers.{kill_failure, reset_complete, restart, keep_alive_complete}
+use Rattle.messages.specs.declared.message.Unread.TheVariants.{Faulty}
 use Rattle.messages.specs.Messages.{request, answer, read_message, spell, spell_error}
 
 -- the cell of a location area code and a cell identity, with nothing after it
@@ -78,6 +79,12 @@ pub record FaultsHold : Type 0 where
   pub spare_bits : read_request (0x10 ∷ 0x00 ∷ 0x00 ∷ 0x04 ∷ 0x04 ∷ 0x00 ∷ 0x01 ∷ 0x16 ∷ []) ≡ Err (bad_value 7)
   pub entry_broken : read_request (0x10 ∷ 0x00 ∷ 0x00 ∷ 0x05 ∷ 0x04 ∷ 0x00 ∷ 0x02 ∷ 0x02 ∷ 0x00 ∷ []) ≡ Err (bad_value 5)
   pub all_with_entries : read_request (0x10 ∷ 0x00 ∷ 0x00 ∷ 0x05 ∷ 0x04 ∷ 0x00 ∷ 0x02 ∷ 0x06 ∷ 0x00 ∷ []) ≡ Err (bad_value 5)
+  -- the Failure List of a RESET FAILURE: a cause that is none stands at octet 10; an entry behind it that breaks off is placed before it, at the length
+  pub entry_bad : read_message (0x12 ∷ 0x00 ∷ 0x00 ∷ 0x07 ∷ 0x09 ∷ 0x00 ∷ 0x04 ∷ 0x02 ∷ 0x00 ∷ 0x01 ∷ 0x7F ∷ []) ≡ Err (Faulty (bad_value 10))
+  pub bad_and_broken :
+      read_message (0x12 ∷ 0x00 ∷ 0x00 ∷ 0x09 ∷ 0x09 ∷ 0x00 ∷ 0x06 ∷ 0x02 ∷ 0x00 ∷ 0x01 ∷ 0x7F ∷ 0x02 ∷ 0x00 ∷ []) ≡ Err (Faulty (bad_value 5))
+  pub bad_and_unknown :
+      read_message (0x12 ∷ 0x00 ∷ 0x00 ∷ 0x09 ∷ 0x09 ∷ 0x00 ∷ 0x06 ∷ 0x02 ∷ 0x00 ∷ 0x01 ∷ 0x7F ∷ 0x03 ∷ 0x00 ∷ []) ≡ Err (Faulty (bad_value 10))
   pub octets_follow : read_request (0x10 ∷ 0x00 ∷ 0x00 ∷ 0x05 ∷ 0x04 ∷ 0x00 ∷ 0x01 ∷ 0x06 ∷ 0x12 ∷ []) ≡ Err (unknown_at 8)
   pub emergency :
       read_request (0x04 ∷ 0x00 ∷ 0x00 ∷ 0x0C ∷ 0x0E ∷ 0x00 ∷ 0x32 ∷ 0x02 ∷ 0x10 ∷ 0x10 ∷ 0x04 ∷ 0x00 ∷ 0x01 ∷ 0x06 ∷ 0x0F ∷ 0x01 ∷ []) ≡ Err (unknown_at 14)
