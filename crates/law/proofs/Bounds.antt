@@ -1,5 +1,5 @@
 -- No count of a table's messages exceeds a bound: a period raises it by one, and no request does.
--- For the law of runs, which has no proof yet: what nothing names here is wanted there.
+-- So the counts of a table fit their type, which a period asks of its caller.
 use Rattle.std.proofs.Common.{◌≡◌, ℕ, zero, suc, ◌+◌, ◌^◌, ◌<◌, ◌≤◌, max, Bool, true, false, cond, ◌⊎◌, List, [], ◌∷◌, ◌++◌, map, length, get_or, set, Some, None, Option, refl, ap, inl, inr, arith}
 use Rattle.std.specs.List.{AllZip, AllByRecursion}
 use Rattle.std.proofs.ByRecursion.{All-from_get_or}
@@ -21,8 +21,9 @@ use Rattle.table.specs.declared.asked.Asked.{Asked}
 use Rattle.table.specs.declared.outcome.Outcome.{Outcome}
 use Rattle.table.specs.Write.{row_of}
 use Rattle.law.specs.Bound.{peak, Bounded}
-use Rattle.law.proofs.Sweeping.{Moved, swept_all}
-use Rattle.law.proofs.Sweeping.Moved.{went, stayed}
+use Rattle.law.proofs.Sweeping.{swept_all}
+use Rattle.law.proofs.Turning.{Moved}
+use Rattle.law.proofs.Turning.Moved.{went, stayed}
 
 -- counts under a bound fit
 all_under : (n : ℕ) (rs : List Row) → peak rs ≤ n → n < 2 ^ 63 → AllByRecursion (λ r. r.count < 2 ^ 63) rs
@@ -125,7 +126,7 @@ bounded_empty n k rows b j = go (cases_eq j k) (cases_lt k (length rows))
 abbrev no_rows : Cell → List Row
 no_rows c = []
 
-none_at : (cells : List Cell) (k : ℕ) → get_or (map no_rows cells) k [] ≡ []
+pub none_at : (cells : List Cell) (k : ℕ) → get_or (map no_rows cells) k [] ≡ []
 none_at [] k = refl
 none_at (c ∷ cs) zero = refl
 none_at (c ∷ cs) (suc k) = none_at cs k

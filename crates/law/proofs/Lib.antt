@@ -1,4 +1,21 @@
-mod Bounds
+pub mod Bounds
+mod Meaning
+mod Entries
 mod Listing
+mod Turning
 mod Sweeping
-mod Telling
+pub mod Telling
+mod Tying
+mod Pasts
+mod Periods
+mod Counts
+mod Ends
+mod Invariants
+mod Changes
+mod Alike
+mod Requests
+mod Writes
+mod Passing
+mod Accepted
+mod Messages
+pub mod Runs

@@ -1,5 +1,4 @@
 -- What the octets of a reply tell the broadcast centre: what the reply says.
--- For the law of runs, which has no proof yet: what nothing names here is wanted there.
 use Rattle.std.proofs.Common.{◌≡◌, Bool, false, cond, leb, List, [], ◌∷◌, length, Some, refl, ap}
 use Rattle.std.proofs.lemmas.Bool.{and_parts, leb-true}
 use Rattle.answering.specs.Fitting.{Spelt}

@@ -8,7 +8,7 @@ use Rattle.cells.specs.File.{identities}
 use Rattle.rows.specs.declared.row.Row.{Row}
 use Rattle.site.specs.Model.{Model}
 use Rattle.site.specs.Events.{Event}
-use Rattle.book.specs.Told.{Booked, booked, told}
+use Rattle.book.specs.Told.{Booked, Told, booked, told}
 use Rattle.book.specs.Book.{book_after, added, overflowed, is_emptied, on_channel}
 use Rattle.law.specs.State.{State, rows_at}
 use Rattle.law.specs.Calls.{Call}
@@ -37,10 +37,14 @@ is_announcing (losing n k space) = false
 is_announcing (returning n k recovery space) = false
 is_announcing (shutting n) = false
 
--- cells that were reset, returned as lost, or had a message end with its count marked overflow
+-- by what was told the cell was reset, returned as lost, or had a message end with its count marked overflow
+abbrev pub spoils : Call → Told → Identity → Bool
+spoils c x i = is_emptied i x && not (is_announcing c) || overflowed i x
+
+-- the cells that the sums leave out
 abbrev pub excepted : List Moment → Identity → Bool
 excepted [] i = false
-excepted (m ∷ ms) i = (is_emptied i (told m.sent) && not (is_announcing m.call) || overflowed i (told m.sent)) || excepted ms i
+excepted (m ∷ ms) i = spoils m.call (told m.sent) i || excepted ms i
 
 -- a row of the table as the book has it
 abbrev pub booked_of : Row → Booked

@@ -5,3 +5,4 @@ pub mod Runs
 pub mod Standing
 pub mod Law
 pub mod Bound
+pub mod Examples

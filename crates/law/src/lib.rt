@@ -1,3 +1,5 @@
-// The law of runs: the centre's book, the table and the site's counts agree after every run of calls. Here are its definitions and lemmas; the
-// function that holds it is not proved yet and stands in runs_are_lawful.rt.txt.
+// The law of runs: the centre's book, the table and the site's counts agree after every run of calls, and in every period what is due goes out.
 #![tactic(auto)]
+
+pub mod examples;
+pub mod runs_are_lawful;
