@@ -1,5 +1,5 @@
 // The cells of a table with their messages, the contents that these broadcast, and the memory in which requests are worked out.
-ghost use Rattle.std.specs.Prelude.{◌≡◌, map, length, vec_len};
+ghost use Rattle.std.specs.Prelude.{◌≡◌, ◌≤◌, map, length, vec_len};
 ghost use Rattle.cells.specs.Held.{cells_of};
 ghost use Rattle.store.specs.Entries.{list_entry};
 
@@ -25,5 +25,6 @@ pub struct Store {
     contents: Vec<Content>,
     work: Work,
     ghost named: { entries.items ≡ map list_entry (cells_of cells) },
+    ghost few: { length (cells_of cells) ≤ 64 },
     ghost known: { vec_len rows ≡ length (cells_of cells) },
 }

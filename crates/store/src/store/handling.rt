@@ -1,5 +1,5 @@
 // A request over its Cell List, and what its reply is made of.
-ghost use Rattle.std.specs.Prelude.{◌≡◌, ◌≤◌, map, length, replicate};
+ghost use Rattle.std.specs.Prelude.{◌≡◌, ◌≤◌, [], map, length, replicate, slice_index_or};
 ghost use Rattle.lists.specs.CellLists.{cells_meant};
 ghost use Rattle.lists.specs.Kinds.{cell_meant};
 ghost use Rattle.naming.specs.Namings.{named_by};
@@ -13,6 +13,7 @@ use cells::cell::Cell;
 use cells::file::MOST_CELLS;
 use lists::cells::Cells;
 use lists::kinds::CellEntry;
+use rows::row::Row;
 use site::Site;
 use table::request::CellRequest;
 
@@ -22,6 +23,13 @@ impl Store {
         ensures few { length result.now ≤ 64 }
     {
         self.cells.cells()
+    }
+
+    // The messages that stand in a cell, the oldest first; none where there is no such cell.
+    pub fn messages(&self, cell: usize) -> &[Row]
+        ensures { result.now ≡ slice_index_or (rows_held self.now) cell [] }
+    {
+        self.rows.get(cell).map_or(&[], |rows| rows.as_slice())
     }
 
     // The cells as a Cell List names them.

@@ -1,0 +1,9 @@
+pub mod Links
+pub mod Held
+pub mod Answers
+pub mod Fresh
+pub mod Results
+pub mod Sites
+pub mod HeldLinks
+pub mod Moments
+pub mod Runs
