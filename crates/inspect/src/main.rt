@@ -2,16 +2,11 @@
 #![tactic(auto)]
 
 use cells::list::CellList;
+use recordings::help::is_help_wanted;
+use std::io;
 use std::io::Read;
-use std::{env, io};
 
-mod answer_lines;
-mod fault_lines;
-mod message_lines;
-mod recording;
 mod report;
-mod request_lines;
-mod subject;
 
 const HELP: &str = "inspect: says what is in a recording of CBSP messages (3GPP TS 48.049)
 
@@ -22,12 +17,6 @@ A cell file is an octet n, an octet 4, n identities (LAC and CI, two octets each
 A line is written for each cell and each message, and below a message its elements, a line or more for each.
 Of a faulty message the cause is told, with layer and place, and the octet there stands in brackets.
 What cannot be read is said, with its offset from the start.";
-
-// Whether the first word on the command line asks for help.
-fn is_help_wanted(rt: &HostRuntime) -> io::Result<bool> {
-    let wanted = env::args(rt)?.nth(1);
-    Ok(wanted.is_some_and(|word| word.as_str() == "--help" || word.as_str() == "-h"))
-}
 
 fn main(rt: HostRuntime) -> io::Result<()> {
     if is_help_wanted(&rt)? {

@@ -1,9 +1,9 @@
 // The lines that are written of a recording.
-use crate::message_lines::show_elements;
-use crate::recording::{NoMessage, Part, Parts, file_end};
 use cbsp::message_type::MessageType;
 use cells::cell::{Capability, Cell};
 use cells::list::CellList;
+use printed::message_lines::show_elements;
+use recordings::recording::{NoMessage, Part, Parts, file_end};
 use shown::lines::Lines;
 use std::{fmt, io};
 
@@ -78,7 +78,7 @@ fn show_message(lines: &Lines<'_, impl Print>, part: Part<'_>) -> io::Result<()>
             "offset {at}: type {code:02x} is no message of the standard, {length} octets"
         )?,
     }
-    show_elements(lines, part)
+    show_elements(lines, at, part.octets)
 }
 
 // What stands behind the last message that could be told.

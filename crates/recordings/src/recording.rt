@@ -1,7 +1,7 @@
 // A recording: a cell file, then messages one behind the other, of either side.
 ghost use Rattle.std.specs.Prelude.{◌≡◌, ◌≤◌, length};
 ghost use Rattle.std.specs.Iterator.{at_most};
-ghost use Rattle.inspect.specs.Recording.{NextPart, Within, file_end, part_of};
+ghost use Rattle.recordings.specs.Recording.{NextPart, Within, file_end, part_of};
 
 use cbsp::framing::first_length;
 

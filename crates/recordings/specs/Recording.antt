@@ -2,10 +2,10 @@
 use Rattle.std.specs.Prelude.{◌≡◌, ℕ, ◌+◌, ◌-◌, ◌*◌, ◌^◌, ◌<◌, ◌≤◌, min, cond, List, length, take, drop, Some, None, Ok, Err, Option, Result, ◌==◌, slice_index}
 use Rattle.cbsp.specs.declared.refusal.Refusal.{Refusal}
 use Rattle.cbsp.specs.Framing.{first_length}
-use Rattle.inspect.specs.declared.recording.NoMessage.{NoMessage}
-use Rattle.inspect.specs.declared.recording.Part.{Part}
-use Rattle.inspect.specs.declared.recording.Parts.{Parts}
-use Rattle.inspect.specs.declared.recording.NoMessage.TheVariants.{Unfinished, TooLong}
+use Rattle.recordings.specs.declared.recording.NoMessage.{NoMessage}
+use Rattle.recordings.specs.declared.recording.Part.{Part}
+use Rattle.recordings.specs.declared.recording.Parts.{Parts}
+use Rattle.recordings.specs.declared.recording.NoMessage.TheVariants.{Unfinished, TooLong}
 
 -- the first octet of a cell file tells how long it is
 abbrev pub file_end : List ℕ → ℕ
