@@ -1,9 +1,9 @@
 #!/usr/bin/env python3
 """A second description of the controller, written apart from the code.
 
-It was made from the papers alone and shares nothing with the crates.  It says
-what the programs rehearse and drill should write for an input, makes many
-random inputs, runs the programs on them and compares.
+It shares nothing with the crates.  It says what the programs rehearse and drill
+should write for an input, makes many random inputs, runs the programs on them
+and compares.
 
 Usage: compare.py [COUNT [SEED]]
 
@@ -34,7 +34,7 @@ RESTART, FAILURE, ERROR_INDICATION = 0x13, 0x14, 0x15
 CONTENT_ID, OLD_ID, NEW_ID, CELLS_ID, CATEGORY_ID = 0x01, 0x02, 0x03, 0x04, 0x05
 REPETITION_ID, REQUESTED_ID, COMPLETED_ID, FAILED_ID = 0x06, 0x07, 0x08, 0x09
 CAUSE_ID, SCHEME_ID, RECOVERY_ID, IDENTIFIER_ID = 0x0B, 0x0C, 0x0D, 0x0E
-EMERGENCY_ID, CHANNEL_ID, PAGES_ID, KIND_ID, PERIOD_ID = 0x0F, 0x12, 0x13, 0x16, 0x18
+EMERGENCY_ID, CHANNEL_ID, PAGES_ID, PERIOD_ID = 0x0F, 0x12, 0x13, 0x18
 
 ENTRY_WIDTHS = {1: 4, 2: 2, 5: 2, 6: 0}
 CHANNEL_NAMES = ["basic", "extended"]
@@ -1229,6 +1229,21 @@ def spoilt_scripts():
     return scripts
 
 
+def cell_file_script():
+    """A cell file with each octet changed, cut off behind each and made longer."""
+    file = bytes.fromhex("0304 01010001 01010002 01020001 000103")
+    files = [file[:size] for size in range(1, len(file))]
+    files += [file + bytes(more) for more in range(1, 8)]
+    for place in range(len(file)):
+        for value in range(256):
+            files.append(file[:place] + bytes([value]) + file[place + 1:])
+    most = bytes([64, 4]) + b"".join(bytes([1, 1, 2, n]) for n in range(64)) + b"\x03" * 64
+    more = bytes([65, 4]) + b"".join(bytes([1, 1, 2, n]) for n in range(65)) + b"\x03" * 65
+    twice_and_bad = file[:6] + file[2:6] + file[10:-1] + b"\x02"
+    files += [more, twice_and_bad, twice_and_bad + b"\x00", most]
+    return ["cells " + octets.hex(" ").upper() for octets in files] + ["open", "announce 1"]
+
+
 def overdue_scripts():
     """Each keep-alive code, asked about after each period."""
     scripts = []
@@ -1321,7 +1336,7 @@ def main():
         if not os.path.exists(program):
             print("not built: " + os.path.normpath(program))
             return 0
-    scripts = edge_scripts() + spoilt_scripts() + overdue_scripts()
+    scripts = edge_scripts() + spoilt_scripts() + overdue_scripts() + [cell_file_script()]
     for lines in scripts:
         if not compare_script(lines):
             return 1
