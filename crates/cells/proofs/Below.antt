@@ -1,5 +1,5 @@
 -- Searching the numbers below n for one that passes a test.
--- Kept: it ties a search over numbers to each of them, and the library has no public lemma of that.
+-- Kept: it ties a search over numbers to each of them, and the library has no single lemma of that.
 use Rattle.std.proofs.Common.{◌≡◌, ℕ, zero, suc, ◌+◌, ◌<◌, Bool, false, refl, subst, not-suc-le-zero, zero-add, add-zero, arith}
 use Rattle.std.specs.List.{list_any, range_with_len}
 use Rattle.std.proofs.lemmas.Bool.{or_parts}

@@ -1,5 +1,5 @@
 -- Identities that are apart.
--- Kept: it ties that search to the law that no two cells are the same, and the library has no public lemma of that.
+-- Kept: it ties that search to the law that no two cells are the same, and the library has no single lemma of that.
 use Rattle.std.proofs.Common.{◌≡◌, ℕ, ◌<◌, true, false, List, length, sym, ap, ◌∙◌, ⊎_elim, arith}
 use Rattle.std.proofs.lemmas.List.FromFn.{length-map-range_with_len, get_or-map-range_with_len}
 use Rattle.std.proofs.lemmas.Bool.{and_from, eq-eqb, both_ways, cases_order}

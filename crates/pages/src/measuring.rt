@@ -17,7 +17,7 @@ pub fn page_count(pages: Pages<'_>) -> Option<usize>
         return None;
     }
     let count = pages.count();
-    if 1 <= count && count <= MOST_PAGES {
+    if (1..=MOST_PAGES).contains(&count) {
         Some(count)
     } else {
         None

@@ -19,8 +19,8 @@ pub struct Page {
     pub content: [u8; PAGE_CONTENT],
 }
 
-// The page whose length stands at a place. No From: a slice and a place, of which the contract says that 83
-// octets stand there. The content is copied into an array: one made of the slice would be a Result to unwrap.
+// The page whose length stands at a place. No From of an array, and the content copied by its places: the check
+// does not cover a pattern that takes an array out of another.
 pub(crate) fn page_at(octets: &[u8], body: usize) -> Page
     requires { body + 83 ≤ length octets.now }
     ensures { result ≡ page_at octets.now body }
