@@ -5,7 +5,7 @@ It shares nothing with the crates.  It says what the programs rehearse and drill
 should write for an input, makes many random inputs, runs the programs on them
 and compares.
 
-Usage: compare.py [COUNT [SEED]]
+Usage: compare.py [COUNT [START]]
 
 COUNT scripts go to rehearse and COUNT inputs to drill.  The first difference
 is printed with the input that shows it, made as small as leaving out lines can
@@ -1331,7 +1331,7 @@ def compare_drill(octets):
 
 def main():
     count = int(sys.argv[1]) if len(sys.argv) > 1 else 200
-    seed = int(sys.argv[2]) if len(sys.argv) > 2 else 1
+    start = int(sys.argv[2]) if len(sys.argv) > 2 else 1
     for program in (REHEARSE, DRILL):
         if not os.path.exists(program):
             print("not built: " + os.path.normpath(program))
@@ -1340,10 +1340,10 @@ def main():
     for lines in scripts:
         if not compare_script(lines):
             return 1
-    for number in range(count):
-        rng = random.Random("%d %d" % (seed, number))
+    for place in range(count):
+        rng = random.Random("%d/%d" % (start, place))
         if not compare_script(ScriptMaker(rng).make()) or not compare_drill(random_drill(rng)):
-            print("seed %d, number %d" % (seed, number))
+            print("start %d, place %d" % (start, place))
             return 1
     print("%d scripts and %d drills: the same" % (count + len(scripts), count))
     return 0

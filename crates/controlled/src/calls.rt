@@ -35,7 +35,7 @@ fn a_refused_announcing_gives_the_link_back(rt: HostRuntime) -> Result<(), Fail>
 }
 
 // A table that is announced, and its link.
-fn announced(rt: &impl Abort, table: &mut Table) -> OpenLink {
+pub fn announced(rt: &impl Abort, table: &mut Table) -> OpenLink {
     let mut space = [0u8; 2048];
     let link = table.open().expect(rt, "opened");
     match table.announce(link, &mut space) {

@@ -4,6 +4,8 @@
 #[cfg(test)]
 mod calls;
 #[cfg(test)]
+mod peers;
+#[cfg(test)]
 mod runs;
 #[cfg(test)]
 mod tools;

@@ -1,5 +1,6 @@
 -- A call that answers by the rules is a step of a run.
-use Rattle.std.proofs.Common.{◌≡◌, ℕ, ◌+◌, Bool, true, false, List, [], length, take, drop, Some, None, Ok, Err, Option, Result, sym, refl, ap, ◌∙◌}
+use Rattle.std.proofs.Common.{◌≡◌, ℕ, ◌+◌, Bool, true, false, List, [], length, take, drop, Some, None, Ok, Err, Option, Result, sym, refl, ap, ◌∙◌, arith}
+use Rattle.std.proofs.lemmas.List.{drop_at}
 use Rattle.std.proofs.Math.Seq.{take-append_seam}
 use Rattle.cbsp.specs.declared.refusal.Refusal.{Refusal}
 use Rattle.cbsp.specs.Octets.{put}
@@ -9,17 +10,26 @@ use Rattle.requests.specs.Requests.{RequestV, write_replace, kill, status_query,
 use Rattle.site.specs.Model.{Model}
 use Rattle.site.specs.Events.{Event}
 use Rattle.law.specs.State.{State}
-use Rattle.law.specs.Calls.{Call, answered, octets_of, reaction, refusal_of}
+use Rattle.law.specs.Calls.{Call, Reaction, answered, octets_of, reaction, refusal_of}
 use Rattle.law.specs.Calls.Call.{opening, announcing, messaging, period, losing, returning, shutting}
 use Rattle.law.specs.Steps.{Acts, Link, Moment, Reacts, SiteMoves, World, is_linked, links_after, octets_in}
 use Rattle.controller.specs.declared.state.message.Answered.{Answered}
 use Rattle.controller.specs.declared.world.Report.TheVariants.{Done, Refused}
-use Rattle.controller.specs.Answers.{Accepted}
+use Rattle.controller.specs.Answers.{Accepted, Reacted}
 use Rattle.controller.specs.Moments.{Stepped, fault_in, fault_of, moment, went_in}
 
 -- what is sent is what stands at the start of the space
 at_start : (xs was is : List ℕ) (n : ℕ) → n ≡ length xs → is ≡ put xs 0 was → take n is ≡ xs
 at_start xs was is n e o = rw (e, o) (take-append_seam xs (drop (0 + length xs) was))
+
+-- the octets behind what is sent stay
+stays_behind : (xs was is : List ℕ) (n : ℕ) → n ≡ length xs → is ≡ put xs 0 was → drop n is ≡ drop n was
+stays_behind xs was is n e o =
+    let z : 0 + length xs ≡ length xs = omega arith in
+    rw (e, o) (drop_at xs (drop (0 + length xs) was) (length xs) refl ∙ ap (λ i. drop i was) z)
+
+pub reacted_behind : (r : Reaction) (n : ℕ) (t : State) (was is : List ℕ) → Reacted r n t was is → drop n is ≡ drop n was
+reacted_behind r n t was is h = stays_behind (octets_of r.reply) was is n h.len h.octets
 
 -- calls that answer from the table; a period is told by its own relation
 abbrev pub is_period : Call → Bool

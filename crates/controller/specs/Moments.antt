@@ -1,5 +1,5 @@
 -- Calls and what came of them, as moments of a run.
-use Rattle.std.specs.Prelude.{◌≡◌, ℕ, List, length, take, Some, None, Ok, Err, Option, Result}
+use Rattle.std.specs.Prelude.{◌≡◌, ℕ, List, drop, length, replicate, take, Some, None, Ok, Err, Option, Result}
 use Rattle.elements.specs.declared.faults.Fault.{Fault}
 use Rattle.requests.specs.Requests.{RequestV, read_request}
 use Rattle.site.specs.Model.{Model}
@@ -78,6 +78,26 @@ report_by unlinked n f = NoLink
 
 abbrev pub report_of : Moment → Report
 report_of m = report_by m.answer (length m.sent) (fault_of m.call)
+
+-- the marks after a call that is accepted
+abbrev pub marks_in : LawCall → List ℕ → List ℕ
+marks_in opening was = was
+marks_in (announcing n space) was = was
+marks_in (messaging n octets marks space) was = replicate 64 0
+marks_in period was = was
+marks_in (losing n k space) was = was
+marks_in (returning n k recovery space) was = was
+marks_in (shutting n) was = was
+
+-- the marks after any call
+abbrev pub marks_by : Report → LawCall → List ℕ → List ℕ
+marks_by (Done a) c was = marks_in c was
+marks_by (Refused r) c was = was
+marks_by NoLink c was = was
+
+-- the octets of the space behind what was sent stay
+abbrev pub SpaceKept : Report → List ℕ → List ℕ → Type 0
+SpaceKept report was is = drop (sent_len report) is ≡ drop (sent_len report) was
 
 -- over any site
 module _ {S : Type 0} (model : S → Model) (steps : S → Event → S → Type 0) where

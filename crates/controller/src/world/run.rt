@@ -25,7 +25,7 @@ impl<S: Site> World<S> {
         space: &mut [u8],
         watcher: &mut W,
     )
-        ensures { Ran S.Site.model S.Site.steps W.Watcher.tells (map (meant (length marks.old) (length space.old)) calls.now) (world_of self.old) (world_of self.new) watcher.old watcher.new }
+        ensures { Ran S.Site.model S.Site.steps W.Watcher.tells (map (meant (length marks.old) (length space.old)) calls.now) (world_of self.old) (world_of self.new) (record { marks = marks.old; space = space.old }) (record { marks = marks.new; space = space.new }) watcher.old watcher.new }
     {
         for call in calls {
             let report = self.step(*call, marks, space);

@@ -1,6 +1,6 @@
 // One call on a world: the link is looked for, the call is made, and the host's links are put in order.
-ghost use Rattle.std.specs.Prelude.{ℕ, List, length};
-ghost use Rattle.controller.specs.Moments.{Stepped, meant, world_of};
+ghost use Rattle.std.specs.Prelude.{◌≡◌, ℕ, List, length};
+ghost use Rattle.controller.specs.Moments.{SpaceKept, Stepped, marks_by, meant, world_of};
 ghost use Rattle.law.specs.Calls.Call.{announcing, losing, messaging, opening, period, returning, shutting};
 
 use super::{Call, Report, World};
@@ -13,7 +13,9 @@ use site::Site;
 impl<S: Site> World<S> {
     // Makes a call.
     pub fn step(&mut self, call: Call<'_>, marks: &mut [u8], space: &mut [u8]) -> Report
-        ensures { Stepped S.Site.model S.Site.steps (meant (length marks.old) (length space.old) call.entry) (world_of self.old) (world_of self.new) result space.new }
+        ensures space { SpaceKept result space.old space.new }
+        ensures marks { marks.new ≡ marks_by result (meant (length marks.old) (length space.old) call.entry) marks.old }
+        ensures stepped { Stepped S.Site.model S.Site.steps (meant (length marks.old) (length space.old) call.entry) (world_of self.old) (world_of self.new) result space.new }
     {
         match call {
             Call::Open => self.open(),
@@ -45,8 +47,10 @@ impl<S: Site> World<S> {
         }
     }
 
+    #[tactic(auto, using(crate::proofs::Stepping::reacted_behind))]
     fn announce(&mut self, number: u16, space: &mut [u8]) -> Report
-        ensures { Stepped S.Site.model S.Site.steps (announcing number (length space.old)) (world_of self.old) (world_of self.new) result space.new }
+        ensures space { SpaceKept result space.old space.new }
+        ensures stepped { Stepped S.Site.model S.Site.steps (announcing number (length space.old)) (world_of self.old) (world_of self.new) result space.new }
     {
         let Some(link) = self.links.take_waiting(number) else {
             return Report::NoLink;
@@ -63,8 +67,11 @@ impl<S: Site> World<S> {
         }
     }
 
+    #[tactic(auto, using(crate::proofs::Stepping::reacted_behind))]
     fn message(&mut self, number: u16, octets: &[u8], marks: &mut [u8], space: &mut [u8]) -> Report
-        ensures { Stepped S.Site.model S.Site.steps (messaging number octets.now (length marks.old) (length space.old)) (world_of self.old) (world_of self.new) result space.new }
+        ensures space { SpaceKept result space.old space.new }
+        ensures marks { marks.new ≡ marks_by result (messaging number octets.now (length marks.old) (length space.old)) marks.old }
+        ensures stepped { Stepped S.Site.model S.Site.steps (messaging number octets.now (length marks.old) (length space.old)) (world_of self.old) (world_of self.new) result space.new }
     {
         let Some(link) = self.links.open_at(number) else {
             return Report::NoLink;
@@ -87,8 +94,10 @@ impl<S: Site> World<S> {
         }
     }
 
+    #[tactic(auto, using(crate::proofs::Stepping::reacted_behind))]
     fn lose(&mut self, number: u16, cell: usize, space: &mut [u8]) -> Report
-        ensures { Stepped S.Site.model S.Site.steps (losing number cell (length space.old)) (world_of self.old) (world_of self.new) result space.new }
+        ensures space { SpaceKept result space.old space.new }
+        ensures stepped { Stepped S.Site.model S.Site.steps (losing number cell (length space.old)) (world_of self.old) (world_of self.new) result space.new }
     {
         let Some(link) = self.links.open_at(number) else {
             return Report::NoLink;
@@ -99,8 +108,10 @@ impl<S: Site> World<S> {
         }
     }
 
+    #[tactic(auto, using(crate::proofs::Stepping::reacted_behind))]
     fn restore(&mut self, number: u16, cell: usize, recovery: Recovery, space: &mut [u8]) -> Report
-        ensures { Stepped S.Site.model S.Site.steps (returning number cell recovery (length space.old)) (world_of self.old) (world_of self.new) result space.new }
+        ensures space { SpaceKept result space.old space.new }
+        ensures stepped { Stepped S.Site.model S.Site.steps (returning number cell recovery (length space.old)) (world_of self.old) (world_of self.new) result space.new }
     {
         let Some(link) = self.links.open_at(number) else {
             return Report::NoLink;
