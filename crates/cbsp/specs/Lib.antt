@@ -7,3 +7,4 @@ pub mod Types
 pub mod Serials
 pub mod PageParameter
 pub mod Octets
+pub mod Unknown

@@ -1,5 +1,5 @@
 -- The type octets of messages.
-use Rattle.std.specs.Prelude.{ℕ, cond, Some, None, Option, ◌==◌}
+use Rattle.std.specs.Prelude.{ℕ, List, codes, cond, Some, None, Option, ◌==◌}
 use Rattle.cbsp.specs.declared.message_type.MessageType.{MessageType}
 use Rattle.cbsp.specs.declared.message_type.MessageType.TheVariants.{
   WriteReplace,
@@ -78,3 +78,29 @@ type_of o =
     cond (o == 21) (Some ErrorIndication) (
     cond (o == 22) (Some KeepAlive) (
     cond (o == 23) (Some KeepAliveComplete) None))))))))))))))))))))))
+
+-- their names in the standard
+abbrev pub type_name : MessageType → List ℕ
+type_name WriteReplace = codes "WRITE-REPLACE"
+type_name WriteReplaceComplete = codes "WRITE-REPLACE COMPLETE"
+type_name WriteReplaceFailure = codes "WRITE-REPLACE FAILURE"
+type_name Kill = codes "KILL"
+type_name KillComplete = codes "KILL COMPLETE"
+type_name KillFailure = codes "KILL FAILURE"
+type_name LoadQuery = codes "LOAD QUERY"
+type_name LoadQueryComplete = codes "LOAD QUERY COMPLETE"
+type_name LoadQueryFailure = codes "LOAD QUERY FAILURE"
+type_name MessageStatusQuery = codes "MESSAGE STATUS QUERY"
+type_name MessageStatusQueryComplete = codes "MESSAGE STATUS QUERY COMPLETE"
+type_name MessageStatusQueryFailure = codes "MESSAGE STATUS QUERY FAILURE"
+type_name SetDrx = codes "SET-DRX"
+type_name SetDrxComplete = codes "SET-DRX COMPLETE"
+type_name SetDrxFailure = codes "SET-DRX FAILURE"
+type_name Reset = codes "RESET"
+type_name ResetComplete = codes "RESET COMPLETE"
+type_name ResetFailure = codes "RESET FAILURE"
+type_name Restart = codes "RESTART"
+type_name Failure = codes "FAILURE"
+type_name ErrorIndication = codes "ERROR INDICATION"
+type_name KeepAlive = codes "KEEP-ALIVE"
+type_name KeepAliveComplete = codes "KEEP-ALIVE COMPLETE"

@@ -1,6 +1,6 @@
 // The two channels of a cell on which messages are broadcast.
-ghost use Rattle.std.specs.Prelude.{◌≡◌};
-ghost use Rattle.cbsp.specs.Channels.{channel_code, channel_of};
+ghost use Rattle.std.specs.Prelude.{◌≡◌, Some};
+ghost use Rattle.cbsp.specs.Channels.{channel_code, channel_name, channel_of};
 ghost use Rattle.cbsp.specs.Decoding.{decoded};
 
 use crate::code::UnknownCode;
@@ -36,6 +36,8 @@ impl TryFrom<u8> for Channel {
 
 // Its name in the standard.
 impl fmt::Display for Channel {
+    ghost output = { λ v. Some (channel_name v) };
+
     fn fmt<W: fmt::Write>(&self, f: &mut fmt::Formatter<W>) -> fmt::Result {
         f.write_str(match self {
             Channel::Basic => "basic channel",

@@ -1,6 +1,6 @@
 // The type octet of a message.
-ghost use Rattle.std.specs.Prelude.{◌≡◌};
-ghost use Rattle.cbsp.specs.Types.{type_code, type_of};
+ghost use Rattle.std.specs.Prelude.{◌≡◌, Some};
+ghost use Rattle.cbsp.specs.Types.{type_code, type_name, type_of};
 ghost use Rattle.cbsp.specs.Decoding.{decoded};
 
 use crate::code::UnknownCode;
@@ -78,6 +78,8 @@ impl TryFrom<u8> for MessageType {
 
 // Its name in the standard.
 impl fmt::Display for MessageType {
+    ghost output = { λ v. Some (type_name v) };
+
     fn fmt<W: fmt::Write>(&self, f: &mut fmt::Formatter<W>) -> fmt::Result {
         f.write_str(match self {
             MessageType::WriteReplace => "WRITE-REPLACE",

@@ -1,6 +1,6 @@
 // Why a call is refused to the host.
-ghost use Rattle.std.specs.Prelude.{◌≡◌};
-ghost use Rattle.cbsp.specs.Refusals.{refusal_number};
+ghost use Rattle.std.specs.Prelude.{◌≡◌, Some};
+ghost use Rattle.cbsp.specs.Refusals.{refusal_number, refusal_text};
 
 use std::fmt;
 
@@ -33,6 +33,8 @@ impl From<Refusal> for u8 {
 
 // What was wrong, in words.
 impl fmt::Display for Refusal {
+    ghost output = { λ v. Some (refusal_text v) };
+
     fn fmt<W: fmt::Write>(&self, f: &mut fmt::Formatter<W>) -> fmt::Result {
         f.write_str(match self {
             Refusal::ReplySpaceTooSmall => "the reply space has fewer than 2,048 octets",

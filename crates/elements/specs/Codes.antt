@@ -1,5 +1,5 @@
 -- The values of elements that have a code for each case.
-use Rattle.std.specs.Prelude.{ℕ, cond, Some, None, Option, ◌==◌}
+use Rattle.std.specs.Prelude.{ℕ, List, codes, cond, Some, None, Option, ◌==◌}
 use Rattle.elements.specs.declared.broadcast.BroadcastType.{BroadcastType}
 use Rattle.elements.specs.declared.broadcast.BroadcastType.TheVariants.{Ordinary, Emergency}
 use Rattle.elements.specs.declared.category.Category.{Category}
@@ -95,3 +95,38 @@ abbrev pub broadcast_of : ℕ → Option BroadcastType
 broadcast_of o =
     cond (o == 0) (Some Ordinary) (
     cond (o == 1) (Some Emergency) None)
+
+-- names of causes in the standard
+abbrev pub cause_name : Cause → List ℕ
+cause_name ParameterNotRecognised = codes "Parameter-not-recognised"
+cause_name ParameterValueInvalid = codes "Parameter-value-invalid"
+cause_name MessageReferenceNotIdentified = codes "Message-reference-not-identified"
+cause_name CellIdentityNotValid = codes "Cell-identity-not-valid"
+cause_name UnrecognisedMessage = codes "Unrecognised-message"
+cause_name MissingMandatoryElement = codes "Missing-mandatory-element"
+cause_name BscCapacityExceeded = codes "BSC-capacity-exceeded"
+cause_name CellMemoryExceeded = codes "Cell-memory-exceeded"
+cause_name BscMemoryExceeded = codes "BSC-memory-exceeded"
+cause_name CellBroadcastNotSupported = codes "Cell-broadcast-not-supported"
+cause_name CellBroadcastNotOperational = codes "Cell-broadcast-not-operational"
+cause_name IncompatibleDrxParameter = codes "Incompatible-DRX-parameter"
+cause_name ExtendedChannelNotSupported = codes "Extended-channel-not-supported"
+cause_name MessageReferenceAlreadyUsed = codes "Message-reference-already-used"
+cause_name UnspecifiedError = codes "Unspecified-error"
+cause_name LaiOrLacNotValid = codes "LAI-or-LAC-not-valid"
+
+-- of categories
+abbrev pub category_name : Category → List ℕ
+category_name HighPriority = codes "high priority"
+category_name Background = codes "background"
+category_name Normal = codes "normal"
+
+-- of recovery indications
+abbrev pub recovery_name : Recovery → List ℕ
+recovery_name Available = codes "CBS/emergency message data available"
+recovery_name Lost = codes "CBS/emergency message data lost"
+
+-- of broadcast message types
+abbrev pub broadcast_name : BroadcastType → List ℕ
+broadcast_name Ordinary = codes "CBS message broadcasting"
+broadcast_name Emergency = codes "emergency message broadcasting"

@@ -1,7 +1,7 @@
 // The Broadcast Message Type: of which messages RESTART and FAILURE speak.
-ghost use Rattle.std.specs.Prelude.{◌≡◌};
+ghost use Rattle.std.specs.Prelude.{◌≡◌, Some};
 ghost use Rattle.cbsp.specs.Decoding.{decoded};
-ghost use Rattle.elements.specs.Codes.{broadcast_code, broadcast_of};
+ghost use Rattle.elements.specs.Codes.{broadcast_code, broadcast_name, broadcast_of};
 
 use cbsp::code::UnknownCode;
 use std::fmt;
@@ -36,6 +36,8 @@ impl TryFrom<u8> for BroadcastType {
 
 // Its name in the standard (3GPP TS 48.049, 8.2).
 impl fmt::Display for BroadcastType {
+    ghost output = { λ v. Some (broadcast_name v) };
+
     fn fmt<W: fmt::Write>(&self, f: &mut fmt::Formatter<W>) -> fmt::Result {
         f.write_str(match self {
             BroadcastType::Ordinary => "CBS message broadcasting",

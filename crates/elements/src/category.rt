@@ -1,7 +1,7 @@
 // The category of a message: which messages go before others on a channel.
-ghost use Rattle.std.specs.Prelude.{◌≡◌};
+ghost use Rattle.std.specs.Prelude.{◌≡◌, Some};
 ghost use Rattle.cbsp.specs.Decoding.{decoded};
-ghost use Rattle.elements.specs.Codes.{category_code, category_of};
+ghost use Rattle.elements.specs.Codes.{category_code, category_name, category_of};
 
 use cbsp::code::UnknownCode;
 use std::fmt;
@@ -38,6 +38,8 @@ impl TryFrom<u8> for Category {
 
 // Its name in the standard (3GPP TS 48.049, 8.2).
 impl fmt::Display for Category {
+    ghost output = { λ v. Some (category_name v) };
+
     fn fmt<W: fmt::Write>(&self, f: &mut fmt::Formatter<W>) -> fmt::Result {
         f.write_str(match self {
             Category::HighPriority => "high priority",

@@ -1,7 +1,7 @@
 // The causes of a Cause element and of the entries of a Failure List.
-ghost use Rattle.std.specs.Prelude.{◌≡◌};
+ghost use Rattle.std.specs.Prelude.{◌≡◌, Some};
 ghost use Rattle.cbsp.specs.Decoding.{decoded};
-ghost use Rattle.elements.specs.Codes.{cause_code, cause_of};
+ghost use Rattle.elements.specs.Codes.{cause_code, cause_name, cause_of};
 
 use cbsp::code::UnknownCode;
 use std::fmt;
@@ -64,6 +64,8 @@ impl TryFrom<u8> for Cause {
 
 // Its name in the standard (3GPP TS 48.049, 8.2).
 impl fmt::Display for Cause {
+    ghost output = { λ v. Some (cause_name v) };
+
     fn fmt<W: fmt::Write>(&self, f: &mut fmt::Formatter<W>) -> fmt::Result {
         f.write_str(match self {
             Cause::ParameterNotRecognised => "Parameter-not-recognised",

@@ -1,7 +1,7 @@
 // The Recovery Indication: whether the messages of the cells named are still there.
-ghost use Rattle.std.specs.Prelude.{◌≡◌};
+ghost use Rattle.std.specs.Prelude.{◌≡◌, Some};
 ghost use Rattle.cbsp.specs.Decoding.{decoded};
-ghost use Rattle.elements.specs.Codes.{recovery_code, recovery_of};
+ghost use Rattle.elements.specs.Codes.{recovery_code, recovery_name, recovery_of};
 
 use cbsp::code::UnknownCode;
 use std::fmt;
@@ -36,6 +36,8 @@ impl TryFrom<u8> for Recovery {
 
 // Its name in the standard (3GPP TS 48.049, 8.2).
 impl fmt::Display for Recovery {
+    ghost output = { λ v. Some (recovery_name v) };
+
     fn fmt<W: fmt::Write>(&self, f: &mut fmt::Formatter<W>) -> fmt::Result {
         f.write_str(match self {
             Recovery::Available => "CBS/emergency message data available",

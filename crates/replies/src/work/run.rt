@@ -1,5 +1,5 @@
 // A request over its Cell List, and the lists of its reply.
-ghost use Rattle.std.specs.Prelude.{◌≡◌, ◌≤◌, [], map, length, replicate};
+ghost use Rattle.std.specs.Prelude.{◌≡◌, ◌≤◌, [], map, length, replicate, IfOk};
 ghost use Rattle.lists.specs.CellLists.{cells_meant};
 ghost use Rattle.naming.specs.Namings.{named_by};
 ghost use Rattle.rows.specs.Held.{rows_of};
@@ -22,7 +22,12 @@ use table::handling::handle;
 use table::request::CellRequest;
 
 impl Work {
-    pub fn new(heap: Global) -> Result<Work, AllocError> {
+    // No list has an entry.
+    pub fn new(heap: Global) -> Result<Work, AllocError>
+        ensures begun { IfOk result (λ work. work.begun ≡ []) }
+        ensures completed { IfOk result (λ work. work.completed ≡ []) }
+        ensures failed { IfOk result (λ work. work.failed ≡ []) }
+    {
         let namings = Bounded::new(heap)?;
         let outcomes = Bounded::new(heap)?;
         let begun = Bounded::new(heap)?;
