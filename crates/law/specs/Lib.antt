@@ -6,3 +6,4 @@ pub mod Standing
 pub mod Law
 pub mod Bound
 pub mod Examples
+pub mod Refused

@@ -1,6 +1,6 @@
 // The drill site: it only counts, and has room for each cell apart.
 ghost use Rattle.site.specs.Model.{New};
-ghost use Rattle.site.specs.Drill.{drill_model, drill_sound};
+ghost use Rattle.site.specs.Drill.{DrillSteps, drill_model, drill_sound};
 
 use crate::Site;
 use crate::cell_states::{CELLS, CellStates};
@@ -32,6 +32,8 @@ impl Site for DrillSite {
     ghost model = { drill_model };
 
     ghost sound = { drill_sound };
+
+    ghost steps = { DrillSteps };
 
     fn capacity(&self) -> u16 {
         CAPACITY
