@@ -3,7 +3,7 @@
 
 #include <time.h>
 
-enum { TURNS = 15, TURN = 1000000 };
+enum { TURNS = 31, TURN = 1000000 };
 
 /* Of this thread alone: while others run it stands still. */
 static double now(void)

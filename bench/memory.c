@@ -35,23 +35,23 @@ static struct allocated for_links(size_t count)
 
 static void print_row(const char *name, struct allocated a)
 {
-    printf("  %-36s %7" PRIu64 " %9" PRIu64 "\n", name, a.blocks, a.octets);
+    printf("  %-42s %7" PRIu64 " %9" PRIu64 "\n", name, a.blocks, a.octets);
 }
 
 static void print_cells(unsigned cells)
 {
-    char name[40];
+    char name[48];
     file.count = 0;
     put_cell_file(&file, cells);
-    snprintf(name, sizeof name, "cell list, %u cells", cells);
+    snprintf(name, sizeof name, "cell list of a file of %u", cells);
     print_row(name, for_list());
-    snprintf(name, sizeof name, "table over %u cells, without the list", cells);
+    snprintf(name, sizeof name, "table over a file of %u, without the list", cells);
     print_row(name, for_table());
 }
 
 void memory_table(void)
 {
-    printf("Memory that is asked for when a controller is made.\n  %-36s %7s %9s\n", "", "blocks", "octets");
+    printf("Memory that is asked for when a controller is made.\n  %-42s %7s %9s\n", "", "blocks", "octets");
     print_cells(1);
     print_cells(64);
     print_row("places for 2 links", for_links(2));
