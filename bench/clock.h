@@ -7,7 +7,10 @@
 /* Does something so many times. */
 typedef void work(void *what, uint32_t rounds);
 
-/* Nanoseconds of a round: the least of several turns, without what a call of no rounds takes. */
+/* Nanoseconds of a round, without what a call of no rounds takes: the least of several turns, and of the passes so far. */
 double nanoseconds(work *does, void *what);
+
+/* From here on the same times are asked for again, in the same order. */
+void begin_pass(void);
 
 #endif
