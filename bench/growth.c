@@ -5,7 +5,7 @@
 
 #include <stdio.h>
 
-/* A round of a series, for the number that grows. Answers over how many the time is shared out. */
+/* Makes the round of a series, for a number that grows. */
 typedef void build(struct exchange *x, unsigned n);
 
 struct series {
@@ -15,7 +15,7 @@ struct series {
 
 enum { REPLY = 12, CELLS = 64 };
 
-/* The newest of so many messages of every cell. */
+/* So many messages stand in every cell. */
 static void stand(struct exchange *x, unsigned messages)
 {
     fill(&x->recording, (struct filling){CELLS, messages, messages, 1});
@@ -117,7 +117,7 @@ static void query_newest(struct exchange *x, unsigned n)
     put_query(x, n - 1, CELLS);
 }
 
-/* Of n messages the oldest is replaced, and so on around. */
+/* The oldest of n messages is replaced, 2n times, until the first n stand again. */
 static void replace_oldest(struct exchange *x, unsigned n)
 {
     fresh(x, CELLS);
@@ -241,13 +241,12 @@ static void by_messages(void)
     static const unsigned numbers[] = {1, 2, 3, 4, 5, 6, 7, 8};
     static const struct series all[] = {
         {"MESSAGE STATUS QUERY of the newest", query_newest},
+        {"2n WRITE-REPLACE that replace the oldest", replace_oldest},
         {"period", period_of_messages},
     };
-    static const unsigned replaced[] = {1, 2, 3, 4, 5, 6, 7, 8};
     print_numbers(numbers, COUNT(numbers), "messages of a cell, 64 cells");
     for (size_t i = 0; i < COUNT(all); i++)
         print_series(all[i], numbers, COUNT(numbers), "message of a cell");
-    print_series((struct series){"2n WRITE-REPLACE that replace the oldest", replace_oldest}, replaced, COUNT(replaced), "message of a cell");
 }
 
 static void by_entries(void)

@@ -125,7 +125,7 @@ typedef void build(struct exchange *x, const struct form *f);
 struct request {
     const char *name;
     build *build;
-    unsigned parts; /* the requests that its figures are for, of as many as a round has */
+    unsigned parts; /* how many like parts a round has: the figures are for one of them */
 };
 
 static const struct request over_lists[] = {
@@ -170,7 +170,7 @@ static void add(struct beside *b, size_t place, const uint8_t *request, const ui
     else if (reply[0] == ERROR_INDICATION)
         note(b, "takes request", place, NULL);
     if (encode.why)
-        note(b, "does not read, so does not write, reply", place, encode.why);
+        note(b, "does not read and write reply", place, encode.why);
     if (encode.differs)
         note(b, "reads, and writes to other octets, reply", place, NULL);
     b->decode += decode.nanoseconds;

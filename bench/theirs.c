@@ -80,26 +80,32 @@ static struct osmo_cbsp_decoded *decoded_kill_complete(const uint8_t *octets, si
     return value;
 }
 
-static bool is_same(const struct osmo_cbsp_decoded *value, const uint8_t *octets, size_t count)
+static bool is_same(const struct msgb *msg, const uint8_t *octets, size_t count)
 {
+    return msgb_length(msg) == count && memcmp(msgb_data(msg), octets, count) == 0;
+}
+
+static struct theirs encode_value(struct osmo_cbsp_decoded *value, const uint8_t *octets, size_t count)
+{
+    struct theirs theirs = {-1, false, NULL};
     struct msgb *msg = osmo_cbsp_encode(NULL, value);
-    bool same = msg && msgb_length(msg) == count && memcmp(msgb_data(msg), octets, count) == 0;
-    if (msg)
-        msgb_free(msg);
-    return same;
+    if (!msg) {
+        theirs.why = "the value is not encoded";
+        return theirs;
+    }
+    theirs.differs = !is_same(msg, octets, count);
+    msgb_free(msg);
+    theirs.nanoseconds = nanoseconds(encode, value);
+    return theirs;
 }
 
 struct theirs encode_time(const uint8_t *octets, size_t count)
 {
-    struct theirs theirs = {-1, false, NULL};
     bool is_kill_complete = octets[0] == KILL_COMPLETE;
     struct osmo_cbsp_decoded *value = is_kill_complete ? decoded_kill_complete(octets, count) : decoded(octets, count);
-    if (!value) {
-        theirs.why = osmo_cbsp_errstr ? osmo_cbsp_errstr : "no reason given";
-        return theirs;
-    }
-    theirs.differs = !is_same(value, octets, count);
-    theirs.nanoseconds = nanoseconds(encode, value);
+    if (!value)
+        return (struct theirs){-1, false, osmo_cbsp_errstr ? osmo_cbsp_errstr : "no reason given"};
+    struct theirs theirs = encode_value(value, octets, count);
     talloc_free(value);
     return theirs;
 }
