@@ -11,9 +11,10 @@ is_found (Ci ci) c = c.identity.ci == ci
 is_found (Lac lac) c = c.identity.lac == lac
 is_found All c = true
 
--- a CI entry names the first cell that it may mean, any other entry all of them
+-- an entry with a CI names the first cell that it may mean, any other entry all of them; no two cells of a checked list have both LAC and
+-- CI in common
 abbrev pub names_only_first : CellIdentity → Bool
-names_only_first (LacCi lac ci) = false
+names_only_first (LacCi lac ci) = true
 names_only_first (Ci ci) = true
 names_only_first (Lac lac) = false
 names_only_first All = false

@@ -23,7 +23,7 @@ pub fn names_only_first(entry: CellIdentity) -> bool
     ensures { result ≡ names_only_first entry }
 {
     match entry {
-        CellIdentity::Ci(_) => true,
-        CellIdentity::LacCi(_, _) | CellIdentity::Lac(_) | CellIdentity::All => false,
+        CellIdentity::LacCi(_, _) | CellIdentity::Ci(_) => true,
+        CellIdentity::Lac(_) | CellIdentity::All => false,
     }
 }

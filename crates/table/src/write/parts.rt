@@ -1,6 +1,5 @@
 // The parts of the step.
-ghost use Rattle.std.specs.Prelude.{◌≡◌, ◌<◌, map, length};
-ghost use Rattle.std.specs.Option.{unwrap_or};
+ghost use Rattle.std.specs.Prelude.{◌≡◌, ◌<◌, Some, map, length};
 ghost use Rattle.rows.specs.Held.{rows_of};
 ghost use Rattle.table.specs.AtCell.{rows_at, with_rows};
 ghost use Rattle.table.specs.Write.{barred, blocked, cut, ended_by, has_channel, key_in, lacks, row_of, slot_for, supports, unless};
@@ -104,9 +103,9 @@ impl Asked {
         Some(row.count)
     }
 
-    // The slot of the new message, or why it does not begin in a cell.
-    pub(crate) fn block(&self, rows: &[Row], slot: Option<u8>) -> Result<u8, Cause>
-        ensures { result ≡ unless (blocked self.now rows.now slot) (unwrap_or slot 0) }
+    // Why the new message does not begin in a cell, wherever its content were kept.
+    pub(crate) fn block(&self, rows: &[Row]) -> Result<(), Cause>
+        ensures { result ≡ unless (blocked self.now rows.now (Some 0)) tt }
     {
         if first_of(rows, self.key_in(self.serial)).is_some() {
             return Err(Cause::MessageReferenceAlreadyUsed);
@@ -114,6 +113,6 @@ impl Asked {
         if rows.len() >= MOST_ROWS {
             return Err(Cause::CellMemoryExceeded);
         }
-        slot.ok_or(Cause::BscMemoryExceeded)
+        Ok(())
     }
 }

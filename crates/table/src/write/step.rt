@@ -23,8 +23,8 @@ fn begin(asked: &Asked, rows: &mut [Rows], cell: usize, slot: &mut Option<u8>) -
     ensures rows { map rows_of rows.new ≡ (if is_ok result then with_rows rows.old cell (rows_at rows.old cell ++ row_of asked.now (unwrap_or (slot_for (map rows_of rows.old) slot.old) 0) ∷ []) else map rows_of rows.old) }
     ensures slot { slot.new ≡ (if is_ok result then slot_for (map rows_of rows.old) slot.old else slot.old) }
 {
-    let found = slot_for(rows, *slot);
-    let own = asked.block(rows_at(rows, cell), found)?;
+    asked.block(rows_at(rows, cell))?;
+    let own = slot_for(rows, *slot).ok_or(Cause::BscMemoryExceeded)?;
     push_at(rows, cell, asked.row_of(own));
     *slot = Some(own);
     Ok(())
