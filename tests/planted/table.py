@@ -1,7 +1,7 @@
 #!/usr/bin/env python3
 """Writes docs/ASSURANCE.md from tests/planted/bugs.tsv, which has a line for each planted bug: its crate, its name, whether the gate tries it
 (must-fail) or tests/planted/run does (planted), what it does, whether the check refused it before the contracts were made stronger
-(refused, proved, or "with others" where it was first tried together with others), and the first refusal that rt printed.
+(refused; proved; unsaid, where no clause spoke of it; "with others", where it was first tried together with others), and by what it is refused.
 
 Usage: table.py [--check]     --check compares, and writes nothing
        table.py --log LOG..   takes the refusals of logs of `rt must-fail` or `rt ci` into bugs.tsv first
@@ -19,10 +19,10 @@ REFUSED = re.compile(r"^rt: must-fail ([a-z]+)/([A-Za-z0-9_]+)\.edit: refused, a
 
 class Bug:
     def __init__(self, line):
-        self.crate, self.name, self.place, self.what, self.before, self.refusal = line.rstrip("\n").split("\t")
+        self.crate, self.name, self.place, self.what, self.before, self.refused_by = line.rstrip("\n").split("\t")
 
     def line(self):
-        return "\t".join((self.crate, self.name, self.place, self.what, self.before, self.refusal)) + "\n"
+        return "\t".join((self.crate, self.name, self.place, self.what, self.before, self.refused_by)) + "\n"
 
     def edit(self):
         folder = "crates/%s/must-fail" % self.crate if self.place == "must-fail" else "tests/planted/%s" % self.crate
@@ -43,7 +43,8 @@ def take_logs(bugs, logs):
                 if found:
                     refusals[found[1], found[2]] = found[3]
     for bug in bugs:
-        bug.refusal = refusals.get((bug.crate, bug.name), bug.refusal)
+        if (bug.crate, bug.name) in refusals:
+            bug.refused_by = refused_by(bug.crate, refusals[bug.crate, bug.name])
     with open(BUGS, "w", encoding="utf-8") as file:
         file.writelines(bug.line() for bug in bugs)
 
@@ -63,20 +64,22 @@ def function_at(crate, path, number):
     return ""
 
 
-def refused_by(bug):
-    """The function and the goal of it that is not proved."""
-    place = re.match(r"(?:note: |error: )?(?:\./)?([\w/.+-]+\.(?:rt|antt)):(\d+)", bug.refusal)
-    goals = re.findall(r"`((?:returns|[\w-]+)[\w-]*)`", bug.refusal)
+def refused_by(crate, refusal):
+    """The function and the goal of it that is not proved, from the first line of a refusal."""
+    place = re.match(r"(?:note: |error: )?(?:\./)?([\w/.+-]+\.(?:rt|antt)):(\d+)", refusal)
+    goals = re.findall(r"\(`([\w+-]+)", refusal) or re.findall(r"`([\w+-]+)`", refusal)
     goal = goals[0] if goals else ""
     if not place:
-        return bug.refusal[:80]
+        return refusal[:80]
     path = place[1]
-    if path.endswith(".antt"):
-        parts = path.split("/")
-        name = parts[-2] if parts[-1] in ("Answers.antt", "Invariants.antt") else parts[-1][:-5]
+    parts = path.split("/")
+    if not path.endswith(".antt"):
+        name = function_at(crate, path, int(place[2]))
+    elif parts[-1] in ("Answers.antt", "Invariants.antt"):
+        name = parts[-2]
     else:
-        name = function_at(bug.crate, path, int(place[2]))
-    return "`%s`: %s" % (name, clause(goal, bug.refusal))
+        return "lemma `%s` of `%s`" % (goal, path)
+    return "`%s`: %s" % (name, clause(goal, refusal))
 
 
 def clause(goal, refusal):
@@ -84,12 +87,16 @@ def clause(goal, refusal):
     named = re.search(r"clause-(\w+)", goal)
     if goal.startswith("returns"):
         return "ensures `%s`" % named[1] if named else "ensures"
+    if goal.startswith("faulty-"):
+        return "ensures `%s`" % goal[len("faulty-"):]
     if "requires" in goal:
         return "requires `%s` of a call" % named[1] if named else "requires of a call"
-    if "invariant_of" in goal or "type_inv" in goal:
-        return "the invariant of the type"
+    if goal.startswith(("invariant_of", "type_inv")):
+        return "the invariant of a type"
     if goal.startswith("loop") or "invariant of the loop" in refusal:
-        return "the invariant of the loop"
+        return "the invariant of a loop"
+    if goal.startswith("slice_bounds"):
+        return "the bounds of a slice"
     return "`%s`" % goal if goal else "a fact that the proof needs"
 
 
@@ -100,7 +107,7 @@ def in_gate(bug):
 def table(bugs):
     rows = ["| Bug | What it does | Tried by | Refused by | Before |", "|---|---|---|---|---|"]
     for bug in sorted(bugs, key=lambda bug: (bug.place, bug.name)):
-        rows.append("| `%s` | %s | %s | %s | %s |" % (bug.name, bug.what, in_gate(bug), refused_by(bug), bug.before))
+        rows.append("| `%s` | %s | %s | %s | %s |" % (bug.name, bug.what, in_gate(bug), bug.refused_by, bug.before))
     return "\n".join(rows) + "\n"
 
 
