@@ -23,7 +23,7 @@ module _ {X : Type 0} (is_that : Booked → X → Bool) (begin : Booked → List
   ended_old None completed xs = xs
   ended_old (Some old) completed xs = ended_in old completed xs
 
-  -- the new message stands in each cell of the Cell List or the completed entries that is not among the failures
+  -- the new message stands wherever the Cell List or a completed entry names the cell and no failure does
   abbrev pub begun_in : Booked → List Entry → Option CellsV → List Entry → List X → List X
   begun_in new completed cells failures xs = cond ((is_in_some cell cells || is_listed cell completed) && not (is_listed cell failures)) (xs ++ begin new) xs
 

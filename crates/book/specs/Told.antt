@@ -22,7 +22,7 @@ pub record Booked : Type 0 where
   pub identifier : ℕ
   pub serial : ℕ
 
--- two are the same when channel, identifier and the codes of the serial numbers agree
+-- whether two have one channel, one identifier and one code of their serial numbers
 abbrev pub same_booked : Booked → Booked → Bool
 same_booked a b = channel_code b.channel == channel_code a.channel && b.identifier == a.identifier && same_code b.serial a.serial
 

@@ -1,4 +1,4 @@
--- Framing: a message is a type octet, a Length Indicator of three octets with the most significant first, and that many octets.
+-- Framing: a header of a type octet and three octets of length, the most significant first, and so many octets behind it.
 use Rattle.std.specs.Prelude.{ℕ, ◌+◌, ◌*◌, ◌≤◌, cond, List, length, Some, None, Ok, Err, Option, Result, nat_lt, slice_index}
 use Rattle.cbsp.specs.declared.refusal.Refusal.{Refusal}
 use Rattle.cbsp.specs.declared.refusal.Refusal.TheVariants.{MessageTooLong}

@@ -21,7 +21,7 @@ to_message (Unknown p) = record { cause = ParameterNotRecognised; layer = layer.
 to_message (RunsPast p) = record { cause = ParameterValueInvalid; layer = layer.Elements; place = p }
 to_message (OutOfRange p) = record { cause = ParameterValueInvalid; layer = layer.Values; place = p }
 
--- a mandatory element is not at its place
+-- a mandatory element is missing there
 abbrev pub missing : ℕ → Fault
 missing p = record { cause = MissingMandatoryElement; layer = layer.Elements; place = p }
 

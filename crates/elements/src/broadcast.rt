@@ -1,4 +1,4 @@
-// The Broadcast Message Type: of which messages RESTART and FAILURE speak.
+// The Broadcast Message Type: which messages RESTART and FAILURE mean.
 ghost use Rattle.std.specs.Prelude.{◌≡◌, Some};
 ghost use Rattle.cbsp.specs.Decoding.{decoded};
 ghost use Rattle.elements.specs.Codes.{broadcast_code, broadcast_name, broadcast_of};

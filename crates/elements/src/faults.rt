@@ -74,7 +74,7 @@ impl From<ElementFault> for Fault {
     }
 }
 
-// A mandatory element is not at its place. A struct literal, as for the other faults: it names cause, layer and
+// A mandatory element is missing there. A struct literal, as for the other faults: it names cause, layer and
 // place, which a constructor of three arguments would not.
 pub fn missing(place: usize) -> Fault
     ensures { result ≡ missed place }

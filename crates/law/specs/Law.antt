@@ -37,7 +37,7 @@ is_announcing (losing n k space) = false
 is_announcing (returning n k recovery space) = false
 is_announcing (shutting n) = false
 
--- by what was told the cell was reset, returned as lost, or had a message end with its count marked overflow
+-- whether a cell leaves the sums: it was told empty, not by an announcing, or a count there told as overflow
 abbrev pub spoils : Call → Told → Identity → Bool
 spoils c x i = is_emptied i x && not (is_announcing c) || overflowed i x
 
@@ -93,7 +93,7 @@ pub record Holds (ms : List Moment) (t : State) (site : Model) : Type 0 where
   -- what the book summed and what stands in the table is what the site counted, but in cells that are excepted
   pub sums : (k : ℕ) (h : Channel) → k < length t.cells → excepted ms (identities t.cells k) ≡ false
       → summed ms (identities t.cells k) h + tally h (rows_at t k) ≡ site.count k h
-  -- in every accepted period each message went out exactly once where it was due, or its cell's room ended at 0; no other went out
+  -- each row is the message that the moments tell, with its count, and in each accepted period just those went out that had to
   pub standings : (k : ℕ) → k < length t.cells → Tied Kept (standing t.cells ms k) (rows_at t k)
   pub periods : AllRight t.cells ms
 

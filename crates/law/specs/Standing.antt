@@ -64,7 +64,7 @@ standing cells (m ∷ ms) k =
     in_period m.went k
     (stands_after (λ old s. same_booked old s.wanted.message) (λ _. map begun (wanted_by m.call)) (identities cells k) (told m.sent) (standing cells ms k))
 
--- it went out fewer times than requested, and in none of the repetition period less one accepted periods before
+-- none went out in the newest periods, one fewer than its repetition period, and fewer than requested in all
 abbrev pub is_due : Standing → Bool
 is_due s = total (take (s.wanted.period - 1) s.past) == 0 && (s.wanted.requested == 0 || nat_lt (total s.past) s.wanted.requested)
 

@@ -86,7 +86,7 @@ reset_local q s e l =
       still = tt;
     }
 
--- the old message ends, if one was given
+-- the messages once the old one ended
 cut_old : (q : Asked) (old : Option ℕ) (rs : List Row) → Cut (is_old_of q old) (ended_by q old rs) rs (cut q old rs)
 cut_old q None rs = cut_none (is_old_of q None) rs
 cut_old q (Some serial) rs = cut_first (is_same (key_in q serial)) rs

@@ -16,7 +16,7 @@ use site::Site;
 use std::alloc::Global;
 use std::io;
 
-// The cells are those of the checked list, by whose numbers and identities the lines speak.
+// The cells are those of the checked list, whose numbers and identities the lines have.
 #[derive(Drop)]
 pub struct Rehearsal<'a, 'b, 'c, P, S> {
     pub rt: &'a P,

@@ -1,4 +1,4 @@
--- Which contents are in use, told from the messages alone: a slot is free when no cell has a message with it.
+-- Which contents are in use, told from the messages alone: a slot is free while no message holds its number.
 use Rattle.std.specs.Prelude.{ℕ, Bool, not, List, Option, ◌==◌}
 use Rattle.std.specs.List.{find, range_with_len}
 use Rattle.rows.specs.declared.row.Row.{Row}

@@ -9,7 +9,7 @@ use cbsp::refusal::Refusal;
 use site::Site;
 
 impl Table {
-    // Starts a period at the site and offers what is due there: cells in the order of their numbers, and in a cell the oldest
+    // Starts a period at the site and offers what is due there, by cell number and within a cell by age, the oldest
     // message first.
     pub fn period<S: Site>(&mut self, site: &mut S) -> Result<(), Refusal>
         ensures { Periods S.Site.model S.Site.steps (state_of self.old) site.old (state_of self.new) site.new result }
