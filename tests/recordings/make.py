@@ -6,7 +6,7 @@ With --check it writes nothing and says whether the recording is the one that it
 import pathlib
 import sys
 
-CELL_FILE = bytes.fromhex("02 04 0101 0001 0101 0002 01 03")
+CELL_FILE = bytes.fromhex("03 04 0101 0001 0101 0002 0303 0001 01 03 00")
 
 
 def message(kind, *elements):
@@ -64,11 +64,11 @@ ALL = cells("06")
 BOTH = cells("01 0101 0001 0101 0002")
 
 
-def write_replace(where, channel, category, period, broadcasts, coding, pages, old=b""):
+def write_replace(where, channel, category, period, broadcasts, coding, pages, old=b"", new=0x1010):
     return message(
         0x01,
         identifier(0x32),
-        new_serial(0x1010),
+        new_serial(new),
         old,
         where,
         channel,
@@ -90,6 +90,13 @@ def requests():
     yield write_replace(cells("05 0101 0202"), EXTENDED, 0, 4095, 65535, 0x44, two, old_serial(0x100F))
     yield message(0x04, identifier(0x32), old_serial(0x1010), cells("02 0001"), BASIC)
     yield message(0x0A, identifier(0x32), old_serial(0x1010), cells("01 0101 0002 0101 0009"), EXTENDED)
+
+
+def texts():
+    """Characters at the edges of what is plain; pages that are no text, for their points, or since half of them is plain; seven bits or eight."""
+    pages = [page(b"Is the zoo open? #$% @AZ[ `az{"), page(b"..........ab"), page(b"ab\x80\x81"), page(b"abc\x80\x81")]
+    yield write_replace(cells("02 0001"), BASIC, 1, 17, 1, 0x44, pages, new=0x0012)
+    yield write_replace(cells("05 0303"), BASIC, 2, 1, 1, 0x10, [page(b"Eight bits")], old_serial(0x000F), 0x0010)
 
 
 def write_answers():
@@ -134,7 +141,7 @@ def faulty():
 
 
 def recording():
-    parts = [CELL_FILE, *requests(), *write_answers(), *other_answers(), *faulty()]
+    parts = [CELL_FILE, *requests(), *texts(), *write_answers(), *other_answers(), *faulty()]
     return b"".join(parts) + octets("04 00 00 0e 0e 00 32")
 
 

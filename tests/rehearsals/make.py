@@ -123,6 +123,11 @@ def day():
     )
     yield sent(write_replace(WEATHER, 0x1010, None, cells(), BASIC, 32, 0, "Gale warning from the west"))
     yield f"periods {HOUR}"
+    yield "# The gale has gone: another notice takes the place of the warning in all cells. The harbour's cell fails, and keeps its messages."
+    yield sent(write_replace(WEATHER, 0x1020, 0x1010, cells(), BASIC, 32, 0, "The gale has gone"))
+    yield "lose 1 2"
+    yield f"periods {HOUR}"
+    yield "return 1 2 available"
     yield "# Evening: the road notice is taken back everywhere, and the town's cell is reset."
     yield sent(kill(ROAD, 0x1010, cells(HARBOUR, TOWN), EXTENDED))
     yield sent(reset(cells(TOWN)))
@@ -131,7 +136,7 @@ def day():
     yield f"periods {HOUR // 4}"
     yield "# The centre opens another link, so that the first is stale."
     yield "open"
-    yield sent(query(WEATHER, 0x1010, cells(), BASIC))
+    yield sent(query(WEATHER, 0x1020, cells(), BASIC))
     yield "announce 2"
     yield "shut 1"
     yield "shut 2"
@@ -140,7 +145,7 @@ def day():
 
 
 def drill():
-    yield bytes.fromhex("02 04 0101 0001 0101 0002 01 03")
+    yield bytes.fromhex("03 04 0101 0001 0101 0002 0202 0007 01 03 03")
     yield reset(cells())
     yield keep_alive(0x26)
     yield keep_alive(0x27)
