@@ -14,11 +14,11 @@ use Rattle.store.specs.Held.{cells_held, rows_held}
 module _ (s t : Store) (opened : ℕ → Bool) (n : ℕ) (b : Bounded n (rows_held s)) where
   pub kill_bounded : (r : ReferenceV) → rows_held t ≡ (killing s opened r).rows → Bounded n (rows_held t)
   kill_bounded r e =
-      subst (Bounded n) (sym e) (bounded_kill outcomes_tell (cells_held s) opened (key_by r) (rows_held s) r.cells n (rows_known s) b)
+      subst (Bounded n) (sym e) (bounded_kill outcomes_tell (cells_held s) opened (rows_held s) r.cells n (rows_known s) b (key_by r))
 
   pub query_bounded : (r : ReferenceV) → rows_held t ≡ (querying s opened r).rows → Bounded n (rows_held t)
   query_bounded r e =
-      subst (Bounded n) (sym e) (bounded_query outcomes_tell (cells_held s) opened (key_by r) (rows_held s) r.cells n (rows_known s) b)
+      subst (Bounded n) (sym e) (bounded_query outcomes_tell (cells_held s) opened (rows_held s) r.cells n (rows_known s) b (key_by r))
 
   pub reset_bounded : (list : CellsV) → rows_held t ≡ (resetting s opened list).rows → Bounded n (rows_held t)
   reset_bounded list e =
@@ -26,4 +26,4 @@ module _ (s t : Store) (opened : ℕ → Bool) (n : ℕ) (b : Bounded n (rows_he
 
   pub write_bounded : (w : WriteReplaceV) → rows_held t ≡ (replacing s opened w).rows → Bounded n (rows_held t)
   write_bounded w e =
-      subst (Bounded n) (sym e) (bounded_write outcomes_tell (cells_held s) opened (asked_by w) (rows_held s) w.cells n (rows_known s) b)
+      subst (Bounded n) (sym e) (bounded_write outcomes_tell (cells_held s) opened (rows_held s) w.cells n (rows_known s) b (asked_by w))

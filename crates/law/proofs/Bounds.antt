@@ -1,6 +1,6 @@
 -- No count of a table's messages exceeds a bound: a period raises it by one, and no request does.
 -- So the counts of a table fit their type, which a period asks of its caller.
-use Rattle.std.proofs.Common.{◌≡◌, ℕ, zero, suc, ◌+◌, ◌^◌, ◌<◌, ◌≤◌, max, Bool, true, false, cond, ◌⊎◌, List, [], ◌∷◌, ◌++◌, map, length, get_or, set, Some, None, Option, refl, ap, inl, inr, arith}
+use Rattle.std.proofs.Common.{◌≡◌, ℕ, zero, suc, ◌+◌, ◌^◌, ◌<◌, ◌≤◌, max, Bool, true, false, cond, ◌⊎◌, List, [], ◌∷◌, ◌++◌, map, length, get_or, set, Some, None, Option, refl, inl, inr, arith}
 use Rattle.std.specs.List.{AllZip, AllByRecursion}
 use Rattle.std.proofs.ByRecursion.{All-from_get_or}
 use Rattle.std.proofs.lemmas.List.{get_or-set_same, get_or-set_other, set_past}
@@ -21,9 +21,9 @@ use Rattle.table.specs.declared.asked.Asked.{Asked}
 use Rattle.table.specs.declared.outcome.Outcome.{Outcome}
 use Rattle.table.specs.Write.{row_of}
 use Rattle.law.specs.Bound.{peak, Bounded}
+use Rattle.law.proofs.Periods.{rise}
 use Rattle.law.proofs.Sweeping.{swept_all}
 use Rattle.law.proofs.Turning.{Moved}
-use Rattle.law.proofs.Turning.Moved.{went, stayed}
 
 -- counts under a bound fit
 all_under : (n : ℕ) (rs : List Row) → peak rs ≤ n → n < 2 ^ 63 → AllByRecursion (λ r. r.count < 2 ^ 63) rs
@@ -37,15 +37,11 @@ pub bounded_weaken : (n m : ℕ) (rows : List (List Row)) → n ≤ m → Bounde
 bounded_weaken n m rows l b k = omega (arith, b k)
 
 -- a period
-moved_count : (k : ℕ) (m : Model) (r s : Row) → Moved k m (lowered r) s → s.count ≤ r.count + 1
-moved_count k m r s (went e d p) = omega (arith, ap (λ (x : Row). x.count) e)
-moved_count k m r s (stayed e f) = omega (arith, ap (λ (x : Row). x.count) e)
-
 peak_moved : (k : ℕ) (m : Model) (rs ss : List Row) → AllZip (Moved k m) (map lowered rs) ss → peak ss ≤ peak rs + 1
 peak_moved k m [] [] e = omega arith
 peak_moved k m [] (s ∷ ss) e = absurd e
 peak_moved k m (r ∷ rs) [] e = absurd e
-peak_moved k m (r ∷ rs) (s ∷ ss) e = omega (arith, moved_count k m r s e.0, peak_moved k m rs ss e.1)
+peak_moved k m (r ∷ rs) (s ∷ ss) e = omega (arith, (rise k m r s e.0).one, peak_moved k m rs ss e.1)
 
 pub bounded_served :
     {S : Type 0} (model : S → Model) (steps : S → Event → S → Type 0) (texts : List Text) (n : ℕ) (rss xss : List (List Row)) (s t : S)
@@ -75,44 +71,36 @@ peak_grown : (r : Row) (cause : Option Cause) (rs ss : List Row) → r.count ≡
 peak_grown r None rs ss z e = rw e (peak_push r rs z)
 peak_grown r (Some c) rs ss z e = rw e (omega arith)
 
--- a request that raises the largest count of no cell
-module _ (cells : List Cell) (list : CellsV) (E : Outcome → List Row → List Row → Type 0) (lowers : (o : Outcome) (rs ss : List Row) → E o rs ss → peak ss ≤ peak rs) where
-  by_lowers : (p : Option Outcome) (rs ss : List Row) → By E p rs ss → peak ss ≤ peak rs
-  by_lowers None rs ss e = rw e (omega arith)
-  by_lowers (Some o) rs ss e = lowers o rs ss e
-
-  bounded_told : (rows after : List (List Row)) (out : List Outcome) (n : ℕ) → Tells cells list E rows after out → Bounded n rows → Bounded n after
-  bounded_told rows after out n t b k = omega (arith, b k, by_lowers (outcome_at k out) (get_or rows k []) (get_or after k []) (t.cell k))
-
-pub bounded_kill :
-    OutcomesTell → (cells : List Cell) (opened : ℕ → Bool) (key : Key) (rows : List (List Row)) (list : CellsV) (n : ℕ) → length rows ≡ length cells
-    → Bounded n rows → Bounded n (kill_work cells opened key rows list).rows
-bounded_kill tells cells opened key rows list n long b =
-    bounded_told cells list (Killed key) (λ o rs ss e. peak_cut (is_same key) o.ended rs ss e.cut.rows) rows _ _ n (tells.kill cells opened key rows list long) b
-
-pub bounded_query :
-    OutcomesTell → (cells : List Cell) (opened : ℕ → Bool) (key : Key) (rows : List (List Row)) (list : CellsV) (n : ℕ) → length rows ≡ length cells
-    → Bounded n rows → Bounded n (query_work cells opened key rows list).rows
-bounded_query tells cells opened key rows list n long b =
-    bounded_told cells list Left (λ o rs ss e. rw e (omega arith)) rows _ _ n (tells.query cells opened key rows list long) b
-
-pub bounded_reset :
-    OutcomesTell → (cells : List Cell) (opened : ℕ → Bool) (rows : List (List Row)) (list : CellsV) (n : ℕ) → length rows ≡ length cells
-    → Bounded n rows → Bounded n (reset_work cells opened rows list).rows
-bounded_reset tells cells opened rows list n long b =
-    bounded_told cells list Emptied (λ o rs ss e. rw e.rows (omega arith)) rows _ _ n (tells.reset cells opened rows list long) b
-
 begun_lowers : (q : Asked) (o : Outcome) (rs ss : List Row) → Begun q o rs ss → peak ss ≤ peak rs
 begun_lowers q o rs ss e =
     let a = peak_cut (is_old q) o.ended rs e.between e.cut.rows in
     let b = peak_grown (row_of q e.slot) o.cause e.between ss refl e.grown in
     omega arith
 
-pub bounded_write :
-    OutcomesTell → (cells : List Cell) (opened : ℕ → Bool) (q : Asked) (rows : List (List Row)) (list : CellsV) (n : ℕ) → length rows ≡ length cells
-    → Bounded n rows → Bounded n (write_work cells opened q rows list).rows
-bounded_write tells cells opened q rows list n long b =
-    bounded_told cells list (Begun q) (begun_lowers q) rows _ _ n (tells.write cells opened q rows list long) b
+-- a request raises the largest count of no cell
+module _ (tells : OutcomesTell) (cells : List Cell) (opened : ℕ → Bool) (rows : List (List Row)) (list : CellsV) (n : ℕ) (long : length rows ≡ length cells)
+    (b : Bounded n rows) where
+  bounded_told :
+      (E : Outcome → List Row → List Row → Type 0) → ((o : Outcome) (rs ss : List Row) → E o rs ss → peak ss ≤ peak rs) → (after : List (List Row))
+      (out : List Outcome) → Tells cells list E rows after out → Bounded n after
+  bounded_told E lowers after out t k = omega (arith, b k, lowered_by (outcome_at k out) (get_or rows k []) (get_or after k []) (t.cell k))
+    where
+      lowered_by : (p : Option Outcome) (rs ss : List Row) → By E p rs ss → peak ss ≤ peak rs
+      lowered_by None rs ss e = rw e (omega arith)
+      lowered_by (Some o) rs ss e = lowers o rs ss e
+
+  pub bounded_kill : (key : Key) → Bounded n (kill_work cells opened key rows list).rows
+  bounded_kill key =
+      bounded_told (Killed key) (λ o rs ss e. peak_cut (is_same key) o.ended rs ss e.cut.rows) _ _ (tells.kill cells opened key rows list long)
+
+  pub bounded_query : (key : Key) → Bounded n (query_work cells opened key rows list).rows
+  bounded_query key = bounded_told Left (λ o rs ss e. rw e (omega arith)) _ _ (tells.query cells opened key rows list long)
+
+  pub bounded_reset : Bounded n (reset_work cells opened rows list).rows
+  bounded_reset = bounded_told Emptied (λ o rs ss e. rw e.rows (omega arith)) _ _ (tells.reset cells opened rows list long)
+
+  pub bounded_write : (q : Asked) → Bounded n (write_work cells opened q rows list).rows
+  bounded_write q = bounded_told (Begun q) (begun_lowers q) _ _ (tells.write cells opened q rows list long)
 
 -- a cell that is emptied, and a table just made
 pub bounded_empty : (n k : ℕ) (rows : List (List Row)) → Bounded n rows → Bounded n (set rows k [])

@@ -1,5 +1,5 @@
 -- What holds after every call of a run, and what a call in which nothing goes out has to show.
-use Rattle.std.proofs.Common.{◌≡◌, ℕ, ◌+◌, ◌*◌, ◌<◌, ◌≤◌, Bool, true, false, ◌≢◌, List, [], ◌∷◌, map, length, None, sym, ap, ◌∙◌, subst, arith}
+use Rattle.std.proofs.Common.{◌≡◌, ℕ, ◌+◌, ◌*◌, ◌<◌, ◌≤◌, Bool, true, false, ◌≢◌, List, [], ◌∷◌, map, length, None, sym, ap, ◌∙◌, arith}
 use Rattle.std.proofs.lemmas.Bool.{or_parts}
 use Rattle.book.specs.Book.{added, book_after, stands_after}
 use Rattle.book.specs.Told.{Booked, Told, same_booked, told}
@@ -21,22 +21,26 @@ use Rattle.law.proofs.Periods.{Is}
 abbrev pub Nowhere : List Cell → Identity → Type 0
 Nowhere cells i = (k : ℕ) → k < length cells → identities cells k ≢ i
 
-pub record Invariant (ms : List Moment) (t : State) (site : Model) : Type 0 where
-  pub checked : Checked t.cells
-  pub long : length t.rows ≡ length t.cells
+-- the invariant, of a table that has these cells
+pub record Over (cells : List Cell) (ms : List Moment) (t : State) (site : Model) : Type 0 where
+  pub checked : Checked cells
+  pub long : length t.rows ≡ length cells
   -- each row is tied to the message that stands there by the moments, and to the book's
-  pub standings : (k : ℕ) → k < length t.cells → Tied Keeps (standing t.cells ms k) (rows_at t k)
-  pub messages : (k : ℕ) → k < length t.cells → Tied Is (book ms (identities t.cells k)) (rows_at t k)
-  pub nowhere : (i : Identity) → Nowhere t.cells i → book ms i ≡ []
-  pub sums : (k : ℕ) (h : Channel) → k < length t.cells → excepted ms (identities t.cells k) ≡ false
-      → summed ms (identities t.cells k) h + tally h (rows_at t k) ≡ site.count k h
-  pub few : (k : ℕ) → k < length t.cells → length (rows_at t k) ≤ 8
+  pub standings : (k : ℕ) → k < length cells → Tied Keeps (standing cells ms k) (rows_at t k)
+  pub messages : (k : ℕ) → k < length cells → Tied Is (book ms (identities cells k)) (rows_at t k)
+  pub nowhere : (i : Identity) → Nowhere cells i → book ms i ≡ []
+  pub sums : (k : ℕ) (h : Channel) → k < length cells → excepted ms (identities cells k) ≡ false
+      → summed ms (identities cells k) h + tally h (rows_at t k) ≡ site.count k h
+  pub few : (k : ℕ) → k < length cells → length (rows_at t k) ≤ 8
   -- a cell's eight messages go out at most once in a period each
-  pub counts : (k : ℕ) (h : Channel) → k < length t.cells → site.count k h ≤ 8 * t.periods
+  pub counts : (k : ℕ) (h : Channel) → k < length cells → site.count k h ≤ 8 * t.periods
   pub periods : t.periods ≤ 4294967295
   -- a table that was never announced has no message, so that its first announcing may say that messages are lost
-  pub unheard : t.ever ≡ false → (k : ℕ) → k < length t.cells → rows_at t k ≡ []
+  pub unheard : t.ever ≡ false → (k : ℕ) → k < length cells → rows_at t k ≡ []
   pub heard : t.announced ≡ true → t.ever ≡ true
+
+abbrev pub Invariant : List Moment → State → Model → Type 0
+Invariant ms t site = Over t.cells ms t site
 
 -- whether a message that stands is that of the book, and what stands where a call begins a message
 abbrev pub is_standing : Booked → Standing → Bool
@@ -66,37 +70,31 @@ pub record Change (ms : List Moment) (c : Call) (x : Told) (t u : State) : Type 
 -- after one moment more: the same cells, the invariant, and what the law says of the moment
 pub record Next (ms : List Moment) (m : Moment) (t u : State) (site : Model) : Type 0 where
   pub cells : u.cells ≡ t.cells
-  pub invariant : Invariant (m ∷ ms) u site
+  pub invariant : Over t.cells (m ∷ ms) u site
   pub right : Right t.cells m.went m ms
 
 module _ (ms : List Moment) (m : Moment) (t u : State) (a b : Model) (x : Told) (i : Invariant ms t a) (c : Change ms m.call x t u)
     (before : m.before ≡ a) (after : m.after ≡ b) (sent : told m.sent ≡ x) (went : m.went ≡ None) (counts : b.count ≡ a.count) where
-  there : (k : ℕ) → k < length u.cells → k < length t.cells
-  there k l = omega (arith, ap (λ (cs : List Cell). length cs) c.cells, l)
-
   same_count : (k : ℕ) (h : Channel) → b.count k h ≡ a.count k h
   same_count k h = ap (λ (f : ℕ → Channel → ℕ). f k h) counts
 
   -- what a call changed, and what is told of it, keep the invariant
-  kept : Invariant (m ∷ ms) u b
+  kept : Over t.cells (m ∷ ms) u b
   kept = record {
-    checked = rw c.cells i.checked;
-    long = c.long ∙ i.long ∙ sym (ap (λ (cs : List Cell). length cs) c.cells);
-    standings = λ k l.
-        subst (λ (cs : List Cell). Tied Keeps (standing cs (m ∷ ms) k) (rows_at u k)) (sym c.cells) (rw (went, sent) (c.standings k (there k l)));
-    messages = λ k l. rw (c.cells, sent) (c.messages k (there k l));
-    nowhere = λ j n. rw (sent, i.nowhere j (rw c.cells at n)) (c.nowhere j (rw c.cells at n));
+    checked = i.checked;
+    long = c.long ∙ i.long;
+    standings = λ k l. rw (went, sent) (c.standings k l);
+    messages = λ k l. rw sent (c.messages k l);
+    nowhere = λ j n. rw (sent, i.nowhere j n) (c.nowhere j n);
     sums = λ k h l e.
-        let l' : k < length t.cells = there k l in
-        let e' : excepted (m ∷ ms) (identities t.cells k) ≡ false = rw c.cells at e in
-        let p = or_parts (spoils m.call (told m.sent) (identities t.cells k)) (excepted ms (identities t.cells k)) e' in
-        let s = c.sums k h l' (rw sent at p.0) in
+        let p = or_parts (spoils m.call (told m.sent) (identities t.cells k)) (excepted ms (identities t.cells k)) e in
+        let s = c.sums k h l (rw sent at p.0) in
         let y = ap (λ (z : Told). added (identities t.cells k) h z) sent in
-        rw c.cells (omega (arith, s, y, same_count k h, i.sums k h l' p.1));
-    few = λ k l. c.few k (there k l);
-    counts = λ k h l. omega (arith, same_count k h, c.periods, i.counts k h (there k l));
+        omega (arith, s, y, same_count k h, i.sums k h l p.1);
+    few = c.few;
+    counts = λ k h l. omega (arith, same_count k h, c.periods, i.counts k h l);
     periods = omega (arith, c.periods, i.periods);
-    unheard = λ e k l. c.unheard e k (there k l);
+    unheard = c.unheard;
     heard = c.heard;
   }
 

@@ -14,7 +14,6 @@ mod Invariants
 mod Changes
 mod Alike
 mod Requests
-mod Writes
 mod Passing
 mod Accepted
 mod Messages

@@ -25,9 +25,8 @@ use Rattle.law.specs.Steps.{Moment, Reacts}
 use Rattle.law.proofs.Accepted.{carried}
 use Rattle.law.proofs.Changes.{silent_change}
 use Rattle.law.proofs.Invariants.{Change, Invariant, Next}
-use Rattle.law.proofs.Requests.{emptied, killed, queried}
+use Rattle.law.proofs.Requests.{emptied, killed, queried, replaced}
 use Rattle.law.proofs.Telling.{told_kill, told_query, told_spelt, told_write}
-use Rattle.law.proofs.Writes.{replaced}
 
 -- one whole message has a header
 has_header : (os : List ℕ) → is_err (whole_message os) ≡ false → 4 ≤ length os
@@ -47,16 +46,16 @@ module _ {S : Type 0} (model : S → Model) (steps : S → Event → S → Type 
   opened = (model s).opened
 
   -- what comes to be from a result of reading, and from what is told then
-  by : (read : Result RequestV Fault) → read_request octets ≡ read → (x : Told) → told (octets_of (answered t opened read).reply) ≡ x
+  by : {read : Result RequestV Fault} → read_request octets ≡ read → (x : Told) → told (octets_of (answered t opened read).reply) ≡ x
       → Change ms (messaging link octets marks space) x t (answered t opened read).table → Next ms m t u (model v)
-  by read e x y change =
+  by e x y change =
       carried model steps tells fits ms m t u s v i before after went (messaging link octets marks space) x call r
       (subst (λ (q : Result RequestV Fault). told (octets_of (answered t opened q).reply) ≡ x) (sym e) y)
       (subst (λ (q : Result RequestV Fault). Change ms (messaging link octets marks space) x t (answered t opened q).table) (sym e) change)
       (ap (λ (z : S). (model z).count) r.site)
 
-  fit : (q : RequestV) → read_request octets ≡ Ok q → request_fits q ≡ true
-  fit q e = (requests_round_trip.0 octets q are_octets (has_header octets whole) e).1
+  fit : {q : RequestV} → read_request octets ≡ Ok q → request_fits q ≡ true
+  fit e = (requests_round_trip.0 octets _ are_octets (has_header octets whole) e).1
 
   heard : t.ever ≡ true
   heard = i.heard announced
@@ -64,31 +63,31 @@ module _ {S : Type 0} (model : S → Model) (steps : S → Event → S → Type 
   -- octets that cannot be read, a query and a KEEP-ALIVE leave the messages; the other requests by what their replies tell
   by_reading : (read : Result RequestV Fault) → read_request octets ≡ read → Next ms m t u (model v)
   by_reading (Err f) e =
-      by (Err f) e silent (told_spelt (error (error_for f)) (fits.fault f))
+      by e silent (told_spelt (error (error_for f)) (fits.fault f))
       (silent_change ms _ t _ (model s) i (record { cells = refl; long = refl; periods = refl; heard = i.heard }) refl (λ k l. refl))
   by_reading (Ok (write_replace w)) e =
       let o = write_work t.cells opened (asked_by w) t.rows w.cells in
-      by (Ok (write_replace w)) e _
-      (told_spelt _ (fits.write t.cells opened (asked_by w) t.rows w i.long i.checked.few (fit (write_replace w) e))
+      by e _
+      (told_spelt _ (fits.write t.cells opened (asked_by w) t.rows w i.long i.checked.few (fit e))
       ∙ told_write w (begun_list t.cells o.out) (completed_list t.cells o.out) (failed_list t.cells o.out))
       (replaced tells ms t (model s) i link octets marks space opened announced w (with_text o.request.slot (stored w.coding w.pages) t.texts) e)
   by_reading (Ok (kill q)) e =
       let o = kill_work t.cells opened (key_by q) t.rows q.cells in
-      by (Ok (kill q)) e _
-      (told_spelt _ (fits.kill t.cells opened (key_by q) t.rows q i.long i.checked.few (fit (kill q) e))
+      by e _
+      (told_spelt _ (fits.kill t.cells opened (key_by q) t.rows q i.long i.checked.few (fit e))
       ∙ told_kill q (completed_list t.cells o.out) (failed_list t.cells o.out))
       (killed tells ms t (model s) i link octets marks space opened announced q)
   by_reading (Ok (status_query q)) e =
       let o = query_work t.cells opened (key_by q) t.rows q.cells in
-      by (Ok (status_query q)) e silent
-      (told_spelt _ (fits.query t.cells opened (key_by q) t.rows q i.long i.checked.few (fit (status_query q) e))
+      by e silent
+      (told_spelt _ (fits.query t.cells opened (key_by q) t.rows q i.long i.checked.few (fit e))
       ∙ told_query q (completed_list t.cells o.out) (failed_list t.cells o.out))
       (queried tells ms t (model s) i link octets marks space opened announced q)
   by_reading (Ok (reset list)) e =
-      by (Ok (reset list)) e _ (told_spelt _ (fits.reset t.cells opened t.rows list i.long i.checked.few (fit (reset list) e)))
+      by e _ (told_spelt _ (fits.reset t.cells opened t.rows list i.long i.checked.few (fit e)))
       (emptied tells ms t (model s) i link octets marks space opened announced list)
   by_reading (Ok (keep_alive code)) e =
-      by (Ok (keep_alive code)) e silent (told_spelt (keep_alive_complete tt) fits.alive)
+      by e silent (told_spelt (keep_alive_complete tt) fits.alive)
       (silent_change ms _ t _ (model s) i (record { cells = refl; long = refl; periods = refl; heard = i.heard }) refl (λ k l. refl))
 
   pub taken : Next ms m t u (model v)

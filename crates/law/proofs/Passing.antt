@@ -1,11 +1,12 @@
 -- An accepted period keeps the invariant, and each message goes out in it as it must.
-use Rattle.std.proofs.Common.{◌≡◌, ℕ, ◌+◌, ◌*◌, ◌<◌, ◌≤◌, Bool, false, List, [], ◌∷◌, map, length, Some, Option, sym, ap, ◌∙◌, subst, arith}
+use Rattle.std.proofs.Common.{◌≡◌, ℕ, ◌+◌, ◌*◌, ◌<◌, ◌≤◌, Bool, List, [], ◌∷◌, map, length, Some, Option, sym, ap, ◌∙◌, subst, arith}
 use Rattle.std.proofs.lemmas.Bool.{or_parts}
+use Rattle.std.proofs.lemmas.List.{length-map}
+use Rattle.std.proofs.lemmas.Slice.Zip.{AllZip-long}
 use Rattle.std.specs.List.{AllZip}
 use Rattle.book.specs.Book.{added}
 use Rattle.book.specs.Told.{told}
 use Rattle.cbsp.specs.declared.channel.Channel.{Channel}
-use Rattle.cells.specs.declared.cell.Cell.{Cell}
 use Rattle.cells.specs.File.{identities}
 use Rattle.rows.specs.Sweep.{lowered}
 use Rattle.site.specs.Events.{Event}
@@ -14,9 +15,8 @@ use Rattle.law.specs.Law.{Fair, Right, Served, Tied, book, excepted, spoils, tal
 use Rattle.law.specs.Standing.{gone, standing}
 use Rattle.law.specs.State.{State, rows_at}
 use Rattle.law.specs.Steps.{Moment, Period, rises}
-use Rattle.law.proofs.Invariants.{Invariant, Next}
-use Rattle.law.proofs.Pasts.{Keeps}
-use Rattle.law.proofs.Periods.{gone_is, moved_length, nothing_moved, tally_lowered, tied_aged, tied_fair, tied_moved}
+use Rattle.law.proofs.Invariants.{Invariant, Next, Over}
+use Rattle.law.proofs.Periods.{gone_is, nothing_moved, tally_lowered, tied_aged, tied_fair, tied_moved}
 use Rattle.law.proofs.Sweeping.{SweptAll, swept_all}
 use Rattle.law.proofs.Turning.{Moved}
 
@@ -26,14 +26,8 @@ module _ {S : Type 0} (model : S → Model) (steps : S → Event → S → Type 
   all : SweptAll t.rows u.rows (model p.begun) (model v)
   all = swept_all model steps t.texts t.rows u.rows p.begun v p.served
 
-  same_cells : u.cells ≡ t.cells
-  same_cells = ap (λ (x : State). x.cells) p.table
-
   one_more : u.periods ≡ t.periods + 1
   one_more = ap (λ (x : State). x.periods) p.table
-
-  there : (k : ℕ) → k < length u.cells → k < length t.cells
-  there k l = omega (arith, ap (λ (cs : List Cell). length cs) same_cells, l)
 
   moved : (k : ℕ) → AllZip (Moved k (model v)) (map lowered (rows_at t k)) (rows_at u k)
   moved k = (all.swept k).rows
@@ -52,27 +46,24 @@ module _ {S : Type 0} (model : S → Model) (steps : S → Event → S → Type 
   bound k h l =
       omega (arith, one_more, rose k h l, (gone_is k (model v) h (standing t.cells ms k) (rows_at t k) (rows_at u k) (i.standings k l) (moved k)).1, i.few k l, i.counts k h l)
 
-  kept : Invariant (m ∷ ms) u (model v)
+  kept : Over t.cells (m ∷ ms) u (model v)
   kept = record {
-    checked = rw same_cells i.checked;
-    long = all.long ∙ i.long ∙ sym (ap (λ (cs : List Cell). length cs) same_cells);
+    checked = i.checked;
+    long = all.long ∙ i.long;
     standings = λ k l.
-        subst (λ (cs : List Cell). Tied Keeps (standing cs (m ∷ ms) k) (rows_at u k)) (sym same_cells)
-        (rw (went, sent) (tied_aged k (model v) (standing t.cells ms k) (rows_at t k) (rows_at u k) (i.standings k (there k l)) (moved k)));
-    messages = λ k l.
-        rw (same_cells, sent) (tied_moved k (model v) (book ms (identities t.cells k)) (rows_at t k) (rows_at u k) (i.messages k (there k l)) (moved k));
-    nowhere = λ j n. rw sent (i.nowhere j (rw same_cells at n));
+        rw (went, sent) (tied_aged k (model v) (standing t.cells ms k) (rows_at t k) (rows_at u k) (i.standings k l) (moved k));
+    messages = λ k l. rw sent (tied_moved k (model v) (book ms (identities t.cells k)) (rows_at t k) (rows_at u k) (i.messages k l) (moved k));
+    nowhere = λ j n. rw sent (i.nowhere j n);
     sums = λ k h l e.
-        let l' : k < length t.cells = there k l in
-        let e' : excepted (m ∷ ms) (identities t.cells k) ≡ false = rw same_cells at e in
-        let x = or_parts (spoils m.call (told m.sent) (identities t.cells k)) (excepted ms (identities t.cells k)) e' in
+        let x = or_parts (spoils m.call (told m.sent) (identities t.cells k)) (excepted ms (identities t.cells k)) e in
         let y = ap (λ (os : List ℕ). added (identities t.cells k) h (told os)) sent in
-        rw same_cells (omega (arith, y, i.sums k h l' x.1, tallied k h));
-    few = λ k l. omega (arith, i.few k (there k l), moved_length k (model v) (rows_at t k) (rows_at u k) (moved k));
-    counts = λ k h l. bound k h (there k l);
+        omega (arith, y, i.sums k h l x.1, tallied k h);
+    few = λ k l.
+        omega (arith, i.few k l, AllZip-long (Moved k (model v)) (map lowered (rows_at t k)) (rows_at u k) (moved k), length-map (rows_at t k) lowered);
+    counts = bound;
     periods = omega (arith, one_more, left);
     unheard = λ e k l.
-        let z = i.unheard (sym (ap (λ (x : State). x.ever) p.table) ∙ e) k (there k l) in
+        let z = i.unheard (sym (ap (λ (x : State). x.ever) p.table) ∙ e) k l in
         nothing_moved k (model v) (rows_at u k) (rw z at (moved k));
     heard = λ e. ap (λ (x : State). x.ever) p.table ∙ i.heard (sym (ap (λ (x : State). x.announced) p.table) ∙ e);
   }
@@ -86,9 +77,8 @@ module _ {S : Type 0} (model : S → Model) (steps : S → Event → S → Type 
     fair =
         rw (after, before)
         (subst (λ (b : Bool). Tied (Fair b ((model v).room k)) (standing t.cells ms k) (rises (rows_at t k) (rows_at u k))) (open_as_before k)
-        (tied_fair k (model v) (standing t.cells ms k) (rows_at t k) (rows_at u k) (omega (arith, i.checked.few, l))
-        (λ h. omega (arith, bound k h l, one_more, left))
-        (i.standings k l) (moved k)));
+        (tied_fair k (model v) (omega (arith, i.checked.few, l)) (λ h. omega (arith, bound k h l, one_more, left)) (standing t.cells ms k) (rows_at t k)
+        (rows_at u k) (i.standings k l) (moved k)));
     counts = λ h. rw (after, before) (rose k h l);
   }
 
@@ -96,4 +86,4 @@ module _ {S : Type 0} (model : S → Model) (steps : S → Event → S → Type 
   elsewhere k h l = rw (after, before) (all.rest k h (omega (arith, i.long, l)) ∙ started_count k h)
 
   pub passed : Next ms m t u (model v)
-  passed = record { cells = same_cells; invariant = kept; right = subst (λ (g : Option (ℕ → List ℕ)). Right t.cells g m ms) (sym went) (served, elsewhere) }
+  passed = record { cells = ap (λ (x : State). x.cells) p.table; invariant = kept; right = subst (λ (g : Option (ℕ → List ℕ)). Right t.cells g m ms) (sym went) (served, elsewhere) }

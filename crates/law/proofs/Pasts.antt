@@ -60,27 +60,11 @@ due_is s r k =
 -- one period more
 pub keeps_on : (k : ℕ) (n : Model) (s : Standing) (r t : Row) → Keeps s r → Moved k n (lowered r) t → Keeps (record { wanted = s.wanted; past = (t.count - r.count) ∷ s.past }) t
 keeps_on k n s r t h (went e d p) =
-    let c : t.count ≡ r.count + 1 = ap (λ (x : Row). x.count) e in
-    let q : t.count - r.count ≡ suc zero = omega arith in
-    rw q
-    (record {
-      message = ap booked_of e ∙ h.message;
-      period = ap (λ (x : Row). x.period) e ∙ h.period;
-      requested = ap (λ (x : Row). x.requested) e ∙ h.requested;
-      count = omega (arith, h.count, c);
-      wait = ap (λ (x : Row). x.wait) e ∙ h.period;
-    })
+    let q : t.count - r.count ≡ suc zero = omega (arith, ap (λ (x : Row). x.count) e) in
+    rw (q, e) (record { message = h.message; period = h.period; requested = h.requested; count = omega (arith, h.count); wait = h.period })
 keeps_on k n s r t h (stayed e f) =
-    let c : t.count ≡ r.count = ap (λ (x : Row). x.count) e in
-    let q : t.count - r.count ≡ zero = omega arith in
-    rw q
-    (record {
-      message = ap booked_of e ∙ h.message;
-      period = ap (λ (x : Row). x.period) e ∙ h.period;
-      requested = ap (λ (x : Row). x.requested) e ∙ h.requested;
-      count = omega (arith, h.count, c);
-      wait = ap (λ (x : Row). x.wait) e ∙ ap (λ (x : ℕ). x - 1) h.wait;
-    })
+    let q : t.count - r.count ≡ zero = omega (arith, ap (λ (x : Row). x.count) e) in
+    rw (q, e) (record { message = h.message; period = h.period; requested = h.requested; count = omega (arith, h.count); wait = ap (λ (x : ℕ). x - 1) h.wait })
 
 -- it went out as it must, since the site's counts are far from full and its cell is one of the 64
 pub fair :

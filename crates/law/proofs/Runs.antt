@@ -26,7 +26,7 @@ use Rattle.law.specs.Steps.Answer.{done, refused, unlinked}
 use Rattle.law.proofs.Accepted.{announced_again, lost, none_holds, opened_again, returned, shut}
 use Rattle.law.proofs.Bounds.{none_at}
 use Rattle.law.proofs.Changes.{silent_change}
-use Rattle.law.proofs.Invariants.{Invariant, Next, quietly}
+use Rattle.law.proofs.Invariants.{Invariant, Next, Over, quietly}
 use Rattle.law.proofs.Messages.{taken}
 use Rattle.law.proofs.Passing.{passed}
 use Rattle.law.proofs.Pasts.{Keeps}
@@ -113,7 +113,7 @@ module _ {S : Type 0} (model : S → Model) (steps : S → Event → S → Type 
   run w v (m ∷ ms) f r =
       let before = run w r.0 ms f r.1 in
       let now = step ms m r.0 v before.0 r.2 in
-      (now.invariant, subst (λ (cs : List Cell). AllRight cs (m ∷ ms)) (sym now.cells) (now.right, before.1))
+      subst (λ (cs : List Cell). Over cs (m ∷ ms) v.table (model v.site) × AllRight cs (m ∷ ms)) (sym now.cells) (now.invariant, (now.right, before.1))
 
   -- book and table hold the same messages
   map_is : (xs : List Booked) (rs : List Row) → Tied Is xs rs → xs ≡ map booked_of rs

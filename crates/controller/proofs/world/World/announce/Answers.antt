@@ -11,8 +11,8 @@ pub returns-in-Ok-clause-stepped : goal.returns-in-Ok-clause-stepped
 returns-in-Ok-clause-stepped g c =
     let e = c.in-Some.ensures in
     let h = c.in-Ok.ensures.answers (g.S.Site.model c.args.self.now.site).opened in
-    done_step g.S.Site.model g.S.Site.steps (announcing c.args.number (length c.args.space.now)) (world_of c.args.self.now) _ _ c.args.space.now _
-    refl (λ k. lit< tt) (sym e.some) (rw (← e.number) h) refl
+    done_step g.S.Site.model g.S.Site.steps (announcing c.args.number (length c.args.space.now)) (world_of c.args.self.now) _ _ c.args.space.now _ _
+    refl refl (λ k. lit< tt) (sym e.some) (rw (← e.number) h) refl
     (put_as (kinds_of c.args.self.now.links) _ _ c.args.number _ _ e.kinds c.put.ensures (c.in-Ok.ensures.link ∙ e.number))
 
 pub returns-in-Err-clause-stepped : goal.returns-in-Err-clause-stepped

@@ -6,7 +6,7 @@ use Rattle.controller.proofs.world.World.message.Goals as goal
 
 pub returns-in-Ok-clause-stepped : goal.returns-in-Ok-clause-stepped
 returns-in-Ok-clause-stepped g c =
-    done_step g.S.Site.model g.S.Site.steps (messaging c.args.number c.args.octets.now (length c.args.marks.now) (length c.args.space.now)) (world_of c.args.self.now) _ c.in-Ok.answered c.args.space.now _ refl (λ k. omega (arith, c.type_inv.octets k))
+    done_step g.S.Site.model g.S.Site.steps (messaging c.args.number c.args.octets.now (length c.args.marks.now) (length c.args.space.now)) (world_of c.args.self.now) _ c.in-Ok.answered c.args.space.now _ _ refl refl (λ k. omega (arith, c.type_inv.octets k))
     (sym c.in-Some.ensures.some)
     (rw (← c.in-Some.ensures.number) c.in-Ok.ensures.answers) refl refl
 
