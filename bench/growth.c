@@ -214,7 +214,15 @@ static void print_series(struct series s, const unsigned *numbers, size_t count,
     printf("\n");
 }
 
+static void print_table(const char *of, const char *one, const unsigned *numbers, size_t count, const struct series *all, size_t most)
+{
+    print_numbers(numbers, count, of);
+    for (size_t i = 0; i < most; i++)
+        print_series(all[i], numbers, count, one);
+}
+
 #define COUNT(array) (sizeof(array) / sizeof *(array))
+#define PRINT_TABLE(of, one, numbers, all) print_table(of, one, numbers, COUNT(numbers), all, COUNT(all))
 
 static void by_cells(void)
 {
@@ -231,9 +239,7 @@ static void by_cells(void)
         {"WRITE-REPLACE, no content free", write_without_content},
         {"period, 8 messages in each cell", period_of_cells},
     };
-    print_numbers(numbers, COUNT(numbers), "cells named, of 64");
-    for (size_t i = 0; i < COUNT(all); i++)
-        print_series(all[i], numbers, COUNT(numbers), "cell");
+    PRINT_TABLE("cells named, of 64", "cell", numbers, all);
 }
 
 static void by_messages(void)
@@ -244,9 +250,7 @@ static void by_messages(void)
         {"2n WRITE-REPLACE that replace the oldest", replace_oldest},
         {"period", period_of_messages},
     };
-    print_numbers(numbers, COUNT(numbers), "messages of a cell, 64 cells");
-    for (size_t i = 0; i < COUNT(all); i++)
-        print_series(all[i], numbers, COUNT(numbers), "message of a cell");
+    PRINT_TABLE("messages of a cell, 64 cells", "message of a cell", numbers, all);
 }
 
 static void by_entries(void)
@@ -260,16 +264,14 @@ static void by_entries(void)
         {"CI of cell after cell, at most 64", all_by_ci},
         {"LAC of 16 cells", one_area},
     };
-    print_numbers(numbers, COUNT(numbers), "entries of the list of a MESSAGE STATUS QUERY, 64 cells");
-    for (size_t i = 0; i < COUNT(all); i++)
-        print_series(all[i], numbers, COUNT(numbers), "entry");
+    PRINT_TABLE("entries of the list of a MESSAGE STATUS QUERY, 64 cells", "entry", numbers, all);
 }
 
 static void by_pages(void)
 {
     static const unsigned numbers[] = {1, 2, 4, 8, 15};
-    print_numbers(numbers, COUNT(numbers), "pages, 1 cell named");
-    print_series((struct series){"WRITE-REPLACE, then KILL", pages}, numbers, COUNT(numbers), "page");
+    static const struct series all[] = {{"WRITE-REPLACE, then KILL", pages}};
+    PRINT_TABLE("pages, 1 cell named", "page", numbers, all);
 }
 
 void growth_tables(void)

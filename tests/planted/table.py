@@ -50,14 +50,12 @@ def take_logs(bugs, logs):
 
 
 def function_at(crate, path, number):
-    """The function that stands at a line of a source file, or begins right behind it."""
+    """The function that stands at a line of a source file, or begins right behind it, as behind its attribute."""
     with open(os.path.join(TOP, "crates", crate, path), encoding="utf-8") as file:
         lines = file.readlines()
-    for line in reversed(lines[:number]):
-        found = re.search(r"\bfn (\w+)", line)
-        if found:
-            return found[1]
-    for line in lines[number:]:
+    before, behind = lines[number - 1 :: -1], lines[number:]
+    is_attribute = lines[number - 1].lstrip().startswith("#[")
+    for line in behind + before if is_attribute else before + behind:
         found = re.search(r"\bfn (\w+)", line)
         if found:
             return found[1]

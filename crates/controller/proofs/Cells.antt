@@ -1,21 +1,17 @@
 -- The cells of a table are a checked list, and every reply over them can be spelt.
 use Rattle.std.proofs.Common.{[], ◌∷◌, map, arith}
 use Rattle.answers.specs.Answers.{error, keep_alive_complete}
-use Rattle.answering.proofs.Fits.{replies_fit}
-use Rattle.answering.specs.Fitting.{RepliesFit, Spelt}
+use Rattle.answering.specs.Fitting.{Spelt}
 use Rattle.answering.specs.Replies.{entry_of, restart_for}
 use Rattle.cells.proofs.Identities.{apart}
 use Rattle.elements.specs.declared.recovery.Recovery.{Recovery}
 use Rattle.cells.specs.declared.cell.Cell.{Cell}
 use Rattle.elements.specs.declared.faults.Fault.{Fault}
 use Rattle.messages.specs.Messages.{error_for}
-use Rattle.outcomes.proofs.Telling.{outcomes_tell}
 use Rattle.store.specs.declared.store.Store.{Store}
 use Rattle.store.specs.Held.{cells_held}
+use Rattle.store.proofs.Answered.{fits}
 use Rattle.law.specs.Runs.{Checked}
-
-pub fits : RepliesFit
-fits = replies_fit outcomes_tell
 
 pub checked : (s : Store) → Checked (cells_held s)
 checked s = record { some = s.cells.some; few = s.few; apart = apart _ s.cells.distinct }

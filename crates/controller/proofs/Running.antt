@@ -11,7 +11,7 @@ use Rattle.law.specs.Steps.{Moment, World}
 use Rattle.law.specs.Runs.{Run}
 use Rattle.law.proofs.Runs.{law}
 use Rattle.outcomes.proofs.Telling.{outcomes_tell}
-use Rattle.controller.proofs.Cells.{fits}
+use Rattle.store.proofs.Answered.{fits}
 use Rattle.controller.specs.declared.world.Call.{Call as Made}
 use Rattle.controller.specs.declared.world.Call.TheVariants.{Open}
 use Rattle.controller.specs.declared.world.Report.{Report}

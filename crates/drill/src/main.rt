@@ -3,6 +3,7 @@
 
 mod exercise;
 
+use cbsp::framing::LONGEST;
 use cells::list::CellList;
 use controller::state::Table;
 use exercise::Exercise;
@@ -39,7 +40,7 @@ fn main(rt: HostRuntime) -> io::Result<()> {
         rt: &rt,
         table: Table::new(rt.alloc(), &list)?,
         site: DrillSite::new(),
-        space: [0; 2048],
+        space: [0; LONGEST],
     };
     exercise.run(Parts { offset, rest })
 }

@@ -14,7 +14,8 @@ pub fn show(rt: &impl Print, list: &mut CellList, stream: &[u8]) -> io::Result<(
     match list.read(file) {
         Ok(count) => {
             let known = list.cells();
-            println!(rt; "cell file: {end} octets, {count} cells")?;
+            let cells = if count == 1 { "cell" } else { "cells" };
+            println!(rt; "cell file: {end} octets, {count} {cells}")?;
             show_cells(rt, known)?;
             show_parts(&Lines { rt, known }, Parts { offset: end, rest })
         }

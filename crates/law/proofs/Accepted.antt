@@ -26,7 +26,7 @@ use Rattle.law.proofs.Changes.{emptied_change, not_spoiled, silent_change}
 use Rattle.law.proofs.Invariants.{Change, Invariant, Next, quietly}
 use Rattle.law.proofs.Listing.{one_listed}
 use Rattle.law.proofs.Telling.{told_spelt}
-use Rattle.law.proofs.Tying.{still_nothing}
+use Rattle.law.proofs.Tying.{either}
 
 -- a call that is not refused: no condition holds
 abbrev pub NoneHolds : List (Bool × Refusal) → Type 0
@@ -91,7 +91,7 @@ module _ {S : Type 0} (model : S → Model) (steps : S → Event → S → Type 
       said false q =
           emptied_change ms (announcing link space) t _ (model s) i (record { cells = refl; long = refl; periods = refl; heard = λ _. refl })
           (on_restart Lost (named (map entry_of t.cells))) (map entry_of t.cells) (λ j ss. refl) (λ j bs. refl) (λ j h. refl)
-          (λ k l. rw (i.unheard q k l) (sym (still_nothing _)))
+          (λ k l. rw (i.unheard q k l) (sym (either _ [])))
           (λ k l z. refl) refl
 
   -- the cell is closed, and its messages stay

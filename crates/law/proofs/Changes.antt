@@ -18,7 +18,7 @@ use Rattle.law.specs.Steps.{Moment}
 use Rattle.law.proofs.Invariants.{Change, Invariant, standing_after}
 use Rattle.law.proofs.Pasts.{Keeps}
 use Rattle.law.proofs.Periods.{Is}
-use Rattle.law.proofs.Tying.{still_nothing, tied_emptied}
+use Rattle.law.proofs.Tying.{either, tied_emptied}
 
 -- the cells and the periods of a table stay, and if it is announced, it was so at some time
 pub record Steady (t u : State) : Type 0 where
@@ -59,7 +59,7 @@ module _ (ms : List Moment) (c : Call) (t u : State) (site : Model) (i : Invaria
     messages = λ k l.
         rw (books (identities t.cells k) (book ms (identities t.cells k)), emptied k l)
         (tied_emptied Is (is_listed (identities t.cells k) list) (book ms (identities t.cells k)) (rows_at t k) (i.messages k l));
-    nowhere = λ j n. books j [] ∙ still_nothing (is_listed j list);
+    nowhere = λ j n. books j [] ∙ either (is_listed j list) [];
     sums = λ k h l e. rw (same k l e) (omega (arith, none (identities t.cells k) h));
     few = λ k l. rw (emptied k l) (few_emptied (is_listed (identities t.cells k) list) (rows_at t k) (i.few k l));
     periods = s.periods;

@@ -19,6 +19,7 @@ use Rattle.table.specs.Write.{key_in, row_of}
 use Rattle.law.specs.Law.{tally}
 use Rattle.law.proofs.Listing.{Whole, end_count}
 use Rattle.law.proofs.Turning.{share}
+use Rattle.law.proofs.Tying.{either}
 
 -- what the one that is taken out had is missing from the sum
 sum_without : {X : Type 0} (f : X → ℕ) (p : X → Bool) (xs : List X) (r : X) → first_of p xs ≡ Some r → sum_by f (without p xs) + f r ≡ sum_by f xs
@@ -56,8 +57,7 @@ front false b c e = e
 
 -- nothing is counted, on whichever channel
 no_share : (b : Bool) → ◌≡◌ {A = ℕ} (cond b 0 0) 0
-no_share true = refl
-no_share false = refl
+no_share b = either b 0
 
 -- a count that is not too large is told whole
 whole_field : (n : ℕ) → n ≤ 65535 → count_field n ≡ n

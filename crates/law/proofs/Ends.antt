@@ -19,7 +19,7 @@ use Rattle.law.specs.Law.{Tied}
 use Rattle.law.proofs.Counts.{none_first}
 use Rattle.law.proofs.Listing.{begins, fails, ends}
 use Rattle.law.proofs.Telling.{in_some}
-use Rattle.law.proofs.Tying.{still_nothing, tied_push, tied_without}
+use Rattle.law.proofs.Tying.{either, tied_push, tied_without}
 
 -- no more messages than before, once one ended
 few_without : {X : Type 0} (p : X → Bool) (xs : List X) → length (without p xs) ≤ length xs
@@ -55,7 +55,7 @@ module _ {X : Type 0} (is_that : Booked → X → Bool) (begin : Booked → List
   kept_written old new b c f xs lb lc = rw (in_some i b, lb, lc) (kept_old old c xs lc)
 
   pub kept_ended : (old : Booked) (c : List Entry) → stands_after is_that begin i (ended old c) [] ≡ []
-  kept_ended old c = still_nothing (is_listed i c)
+  kept_ended old c = either (is_listed i c) []
 
 -- whatever stands in a cell, tied to its rows by R, where what is tied is the same message for both
 module _ {X : Type 0} (R : X → Row → Type 0) (is_that : Booked → X → Bool) (begin : Booked → List X)

@@ -30,10 +30,10 @@ module _ {X Y : Type 0} (R : X → Y → Type 0) where
   tied_emptied true xs ys t = tt
   tied_emptied false xs ys t = t
 
--- a list of nothing, emptied or not
-pub still_nothing : {X : Type 0} (b : Bool) → ◌≡◌ {A = List X} (cond b [] []) []
-still_nothing true = refl
-still_nothing false = refl
+-- the same either way
+pub either : {A : Type 0} (b : Bool) (x : A) → cond b x x ≡ x
+either true x = refl
+either false x = refl
 
 -- a weaker tie
 pub tied_weaker : {X Y : Type 0} (R Q : X → Y → Type 0) → ((x : X) (y : Y) → R x y → Q x y) → (xs : List X) (ys : List Y) → Tied R xs ys → Tied Q xs ys

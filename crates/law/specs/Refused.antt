@@ -28,7 +28,7 @@ whole = 0x16 ∷ 0x00 ∷ 0x00 ∷ 0x02 ∷ 0x18 ∷ 0x26 ∷ []
 abbrev cut_off : List ℕ
 cut_off = 0x16 ∷ 0x00 ∷ 0x00 ∷ 0x02 ∷ 0x18 ∷ []
 
--- the first condition that holds gives the refusal: each line but the first of a call breaks later conditions too
+-- the first condition that holds gives the refusal, also where later ones hold
 pub record RefusalsHold : Type 0 where
   pub opened : why opening (with_link announced 65534 true true) ≡ None
   pub openings : why opening (with_link announced 65535 true true) ≡ Some refusal.OpeningsUsedUp

@@ -133,8 +133,8 @@ fn is_octets(word: &str) -> bool {
     word.len() % 2 == 0 && word.bytes().all(|digit| digit.is_ascii_hexdigit())
 }
 
-// What a line says behind its comment, which begins with #.
-fn without_comment(line: &str) -> &str {
+// What a line says before its comment, which begins with #.
+pub fn without_comment(line: &str) -> &str {
     line.split_once('#').map_or(line, |(said, _)| said)
 }
 

@@ -1,5 +1,6 @@
 // How lines and results are told.
 use crate::octets::Spaced;
+use crate::script::without_comment;
 use cbsp::message_type::MessageType;
 use controller::state::message::Answered;
 use controller::world::Report;
@@ -15,10 +16,7 @@ pub struct Said<'a> {
 
 impl fmt::Display for Said<'_> {
     fn fmt<W: fmt::Write>(&self, f: &mut fmt::Formatter<W>) -> fmt::Result {
-        let said = self
-            .line
-            .split_once('#')
-            .map_or(self.line, |(said, _)| said);
+        let said = without_comment(self.line);
         for (place, word) in said.split_ascii_whitespace().take(self.words).enumerate() {
             if place > 0 {
                 f.write_str(" ")?;
@@ -60,12 +58,30 @@ impl fmt::Display for TypeOf<'_> {
     }
 }
 
-// What is sent, or why nothing is: the call is refused, or the host has no link for it, of the kind that it needs.
+// The link that a call needs.
+#[derive(Clone, Copy)]
+pub enum Needed {
+    Any,
+    Waiting,
+    Open,
+}
+
+impl fmt::Display for Needed {
+    fn fmt<W: fmt::Write>(&self, f: &mut fmt::Formatter<W>) -> fmt::Result {
+        f.write_str(match self {
+            Needed::Any => "link",
+            Needed::Waiting => "waiting link",
+            Needed::Open => "open link",
+        })
+    }
+}
+
+// What is sent, or why nothing is: the call is refused, or the host has no link for it as it needs one.
 #[derive(Clone, Copy)]
 pub struct Outcome<'a> {
     pub report: Report,
     pub sent: &'a [u8],
-    pub kind: &'a str,
+    pub needed: Needed,
 }
 
 impl fmt::Display for Outcome<'_> {
@@ -77,7 +93,7 @@ impl fmt::Display for Outcome<'_> {
                 write!(f, "{octets}{fault}")
             }
             Report::Refused(refusal) => write!(f, "refused {}", u8::from(refusal)),
-            Report::NoLink => write!(f, "no {}", self.kind),
+            Report::NoLink => write!(f, "no {}", self.needed),
         }
     }
 }

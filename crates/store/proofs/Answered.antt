@@ -26,7 +26,7 @@ use Rattle.store.specs.declared.store.Store.{Store}
 use Rattle.store.specs.Held.{cells_held, rows_held}
 use Rattle.store.proofs.Held.{rows_known}
 
-fits : RepliesFit
+pub fits : RepliesFit
 fits = replies_fit outcomes_tell
 
 -- a reply made of two lists, and the same of what these are

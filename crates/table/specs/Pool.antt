@@ -1,5 +1,5 @@
 -- Which contents are in use, told from the messages alone: a slot is free while no message holds its number.
-use Rattle.std.specs.Prelude.{ℕ, Bool, not, List, Option, ◌==◌}
+use Rattle.std.specs.Prelude.{ℕ, ◌≤◌, ◌≡◌, Bool, false, not, List, length, slice_index_or, take, replicate, Option, ◌==◌}
 use Rattle.std.specs.List.{find, range_with_len}
 use Rattle.rows.specs.declared.row.Row.{Row}
 use Rattle.rows.specs.Keys.{any_of}
@@ -18,3 +18,11 @@ is_used ts s = any_of (holds s) ts
 -- the lowest of the 32 slots that is free
 unfoldable pub free_slot : List (List Row) → Option ℕ
 free_slot ts = find (λ s. not (is_used ts s)) (range_with_len 0 32)
+
+-- for each slot, no cell was passed
+abbrev pub none_passed : List ℕ
+none_passed = replicate 32 0
+
+-- what is known of passed cells is true: for each slot, they are no more than there are, and none of them holds it
+abbrev pub Fits : List ℕ → List (List Row) → Type 0
+Fits passed ts = (s : ℕ) → (slice_index_or passed s 0 ≤ length ts) × (is_used (take (slice_index_or passed s 0) ts) s ≡ false)

@@ -4,8 +4,10 @@ ghost use Rattle.std.specs.List.{AllByRecursion};
 ghost use Rattle.rows.specs.Held.{rows_of};
 ghost use Rattle.naming.specs.Namings.{IsThere};
 ghost use Rattle.table.specs.Handling.{capability_at, comes_of, handled, request_on, rows_on, stage};
+ghost use Rattle.table.specs.Pool.{Fits};
 
 use crate::outcome::Outcome;
+use crate::pool::Search;
 use crate::request::CellRequest;
 use bounded::list::Bounded;
 use cells::cell::{Capability, Cell};
@@ -27,18 +29,22 @@ fn capability_at(cells: &[Cell], cell: usize) -> Capability
 fn handle_one<R: CellRequest, S: Site>(
     request: &mut R,
     rows: &mut [Rows],
+    search: &mut Search,
     cells: &[Cell],
     site: &S,
     naming: Naming,
 ) -> Outcome
-    requires { IsThere (length rows.old) naming }
+    requires there { IsThere (length rows.old) naming }
+    requires fits { Fits search.old.passed (map rows_of rows.old) }
     ensures comes { result ≡ comes_of R.CellRequest.acts cells.now (S.Site.model site.now).opened request.old (map rows_of rows.old) naming }
     ensures rows { map rows_of rows.new ≡ rows_on R.CellRequest.acts cells.now (S.Site.model site.now).opened request.old (map rows_of rows.old) naming }
     ensures request { request.new ≡ request_on R.CellRequest.acts cells.now (S.Site.model site.now).opened request.old (map rows_of rows.old) naming }
+    ensures fits { Fits search.new.passed (map rows_of rows.new) }
 {
     match naming {
         Naming::Cell(cell) => {
-            request.apply(rows, cell, capability_at(cells, cell), site.is_open(cell))
+            let capability = capability_at(cells, cell);
+            request.apply(rows, search, cell, capability, site.is_open(cell))
         }
         Naming::NoCell(identity) => Outcome::no_cell(identity),
     }
@@ -59,8 +65,9 @@ pub fn handle<R: CellRequest, S: Site, const N: usize>(
     ensures handled { stage request.new (map rows_of rows.new) out.new ≡ handled R.CellRequest.acts cells.now (S.Site.model site.now).opened (stage request.old (map rows_of rows.old) out.old) namings.now }
     ensures len { length out.new ≡ length out.old + length namings.now }
 {
+    let mut search = Search::new();
     for naming in namings {
-        let outcome = handle_one(request, rows, cells, site, *naming);
+        let outcome = handle_one(request, rows, &mut search, cells, site, *naming);
         out.push_reserved(outcome);
     }
 }

@@ -1,11 +1,21 @@
 // The search for a slot whose content no message broadcasts.
-ghost use Rattle.std.specs.Prelude.{◌≡◌, map};
+ghost use Rattle.std.specs.Prelude.{◌≡◌, ◌<◌, IfSome, map, length, slice_set};
+ghost use Rattle.std.specs.List.{position};
 ghost use Rattle.rows.specs.Held.{rows_of};
-ghost use Rattle.table.specs.Pool.{free_slot, holds, is_used};
+ghost use Rattle.table.specs.Pool.{Fits, free_slot, holds, is_used, none_passed};
 
 use crate::write::SLOTS;
 use rows::row::Row;
 use rows::rows::Rows;
+
+const PLACES: usize = SLOTS as usize;
+
+// What the looks of one request know: for each slot, how many cells, from the first on, do not hold it. While
+// messages only end that stays so, and the looks together pass each cell once for each slot.
+#[derive(Clone, Copy, PartialEq, Eq, Debug)]
+pub struct Search {
+    passed: [usize; PLACES],
+}
 
 fn is_held(rows: &[Row], slot: u8) -> bool
     ensures { result ≡ holds slot rows.now }
@@ -13,15 +23,62 @@ fn is_held(rows: &[Row], slot: u8) -> bool
     rows.iter().any(|row| row.slot == slot)
 }
 
-fn is_used(cells: &[Rows], slot: u8) -> bool
-    ensures { result ≡ is_used (map rows_of cells.now) slot }
+// The first cell that holds the slot.
+fn holder(cells: &[Rows], slot: u8) -> Option<usize>
+    ensures value { result ≡ position (holds slot) (map rows_of cells.now) }
+    ensures within { IfSome result (λ k. k < length cells.now) }
 {
-    cells.iter().any(|cell| is_held(cell.as_slice(), slot))
+    cells.iter().position(|cell| is_held(cell.as_slice(), slot))
 }
 
-// The lowest slot that is free, nothing where all are in use.
-pub fn free_slot(cells: &[Rows]) -> Option<u8>
-    ensures { result ≡ free_slot (map rows_of cells.now) }
-{
-    (0..SLOTS).find(|slot| !is_used(cells, *slot))
+impl Search {
+    // No cell was passed.
+    pub(crate) fn new() -> Search
+        ensures { result.passed ≡ none_passed }
+    {
+        Search {
+            passed: [0; PLACES],
+        }
+    }
+
+    // Whether a cell holds the slot: the look goes on where the last one for it ended.
+    fn is_used(&mut self, cells: &[Rows], slot: u8) -> bool
+        requires below { slot < 32 }
+        requires fits { Fits self.old.passed (map rows_of cells.now) }
+        ensures value { result ≡ is_used (map rows_of cells.now) slot }
+        ensures fits { Fits self.new.passed (map rows_of cells.now) }
+    {
+        let place = usize::from(slot);
+        let from = self.passed[place];
+        let Some(further) = holder(&cells[from..], slot) else {
+            return false;
+        };
+        self.passed[place] = from + further;
+        true
+    }
+
+    // The lowest slot that is free, nothing where all are in use.
+    pub(crate) fn free_slot(&mut self, cells: &[Rows]) -> Option<u8>
+        requires { Fits self.old.passed (map rows_of cells.now) }
+        ensures value { result ≡ free_slot (map rows_of cells.now) }
+        ensures fits { Fits self.new.passed (map rows_of cells.now) }
+    {
+        for slot in 0..SLOTS {
+            if !self.is_used(cells, slot) {
+                return Some(slot);
+            }
+        }
+        None
+    }
+
+    // A message begins with the slot, in whatever cell.
+    #[tactic(auto, using(std::proofs::lemmas::List::set_past))]
+    pub(crate) fn restart(&mut self, slot: u8)
+        ensures { self.new.passed ≡ slice_set self.old.passed slot 0 }
+    {
+        let place = usize::from(slot);
+        if place < PLACES {
+            self.passed[place] = 0;
+        }
+    }
 }

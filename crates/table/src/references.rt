@@ -6,6 +6,7 @@ ghost use Rattle.table.specs.Settings.{setting};
 
 use crate::at_cell::{clear_at, rows_at, take_at};
 use crate::outcome::Outcome;
+use crate::pool::Search;
 use crate::request::CellRequest;
 use cells::cell::Capability;
 use elements::cause::Cause;
@@ -55,6 +56,7 @@ impl CellRequest for Kill {
     fn apply(
         &mut self,
         rows: &mut [Rows],
+        _search: &mut Search,
         cell: usize,
         _capability: Capability,
         _opened: bool,
@@ -69,6 +71,7 @@ impl CellRequest for Query {
     fn apply(
         &mut self,
         rows: &mut [Rows],
+        _search: &mut Search,
         cell: usize,
         _capability: Capability,
         _opened: bool,
@@ -83,6 +86,7 @@ impl CellRequest for Reset {
     fn apply(
         &mut self,
         rows: &mut [Rows],
+        _search: &mut Search,
         cell: usize,
         _capability: Capability,
         _opened: bool,

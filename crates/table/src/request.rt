@@ -2,9 +2,11 @@
 ghost use Rattle.std.specs.Prelude.{◌≡◌, ◌<◌, map, length};
 ghost use Rattle.rows.specs.Held.{rows_of};
 ghost use Rattle.table.specs.Acts.{Acts};
+ghost use Rattle.table.specs.Pool.{Fits};
 ghost use Rattle.table.specs.Settings.{setting};
 
 use crate::outcome::Outcome;
+use crate::pool::Search;
 use cells::cell::Capability;
 use rows::rows::Rows;
 
@@ -15,12 +17,15 @@ pub trait CellRequest {
     fn apply(
         &mut self,
         rows: &mut [Rows],
+        search: &mut Search,
         cell: usize,
         capability: Capability,
         opened: bool,
     ) -> Outcome
-        requires { cell < length rows.old }
+        requires there { cell < length rows.old }
+        requires fits { Fits search.old.passed (map rows_of rows.old) }
         ensures answer { result ≡ acts.answer self.old (setting (map rows_of rows.old) cell capability opened) }
         ensures leaves { map rows_of rows.new ≡ acts.leaves self.old (setting (map rows_of rows.old) cell capability opened) }
-        ensures becomes { self.new ≡ acts.becomes self.old (setting (map rows_of rows.old) cell capability opened) };
+        ensures becomes { self.new ≡ acts.becomes self.old (setting (map rows_of rows.old) cell capability opened) }
+        ensures fits { Fits search.new.passed (map rows_of rows.new) };
 }

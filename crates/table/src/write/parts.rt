@@ -2,11 +2,12 @@
 ghost use Rattle.std.specs.Prelude.{◌≡◌, ◌<◌, Some, map, length};
 ghost use Rattle.rows.specs.Held.{rows_of};
 ghost use Rattle.table.specs.AtCell.{rows_at, with_rows};
+ghost use Rattle.table.specs.Pool.{Fits};
 ghost use Rattle.table.specs.Write.{barred, blocked, cut, ended_by, has_channel, key_in, lacks, row_of, slot_for, supports, unless};
 
 use crate::asked::Asked;
 use crate::at_cell::take_at;
-use crate::pool::free_slot;
+use crate::pool::Search;
 use cbsp::channel::Channel;
 use cells::cell::Capability;
 use elements::cause::Cause;
@@ -32,10 +33,15 @@ fn is_supported(capability: Capability, channel: Channel) -> bool
 }
 
 // The request's own slot, else one that is free.
-pub(crate) fn slot_for(rows: &[Rows], slot: Option<u8>) -> Option<u8>
-    ensures { result ≡ slot_for (map rows_of rows.now) slot }
+pub(crate) fn slot_for(rows: &[Rows], search: &mut Search, slot: Option<u8>) -> Option<u8>
+    requires { Fits search.old.passed (map rows_of rows.now) }
+    ensures value { result ≡ slot_for (map rows_of rows.now) slot }
+    ensures fits { Fits search.new.passed (map rows_of rows.now) }
 {
-    slot.or_else(|| free_slot(rows))
+    match slot {
+        Some(_) => slot,
+        None => search.free_slot(rows),
+    }
 }
 
 impl Asked {

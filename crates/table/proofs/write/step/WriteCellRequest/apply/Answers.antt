@@ -4,7 +4,9 @@ use Rattle.rows.specs.declared.row.Row.{Row}
 use Rattle.rows.specs.Held.{rows_of}
 use Rattle.table.specs.Outcomes.{outcome}
 use Rattle.table.specs.Settings.{Setting, setting}
-use Rattle.table.specs.Write.{bar, barred, unless}
+use Rattle.table.specs.AtCell.{rows_at}
+use Rattle.table.specs.Write.{bar, barred, cut, unless}
+use Rattle.table.proofs.Searching.{cut_holds, fewer_fit}
 use Rattle.table.proofs.Writing.{cause_of, stopped, went_on}
 use Rattle.table.proofs.write.step.WriteCellRequest.apply.Goals as goal
 
@@ -14,7 +16,7 @@ returns-in-Err c =
     let s : Setting = setting (map rows_of c.args.rows.now) c.args.cell c.args.capability c.args.opened in
     let answered = c.in-Err.ensures ∙ ap (λ (rs : List Row). unless (barred w.asked c.args.capability c.args.opened rs) tt) c.rows_at.ensures in
     let r = stopped w s c.in-Err.cause (cause_of (bar w s) (Err c.in-Err.cause) answered) in
-    record { answer = r.answer; leaves = r.leaves; becomes = r.becomes }
+    record { answer = r.answer; leaves = r.leaves; becomes = r.becomes; fits = c.requires.fits }
 
 pub returns : goal.returns
 returns c =
@@ -30,4 +32,12 @@ returns c =
       answer = ap (λ (o : Option Cause). outcome s.cell c.end_old-ended.result o) c.err-cause.ensures.value ∙ r.answer;
       leaves = r.leaves;
       becomes = r.becomes;
+      fits = c.begin.ensures.fits;
     }
+
+pub begin-requires-clause-fits : goal.begin-requires-clause-fits
+begin-requires-clause-fits c =
+    let q = c.args.self.now.asked in
+    let here = rows_at c.args.rows.now c.args.cell in
+    rw c.end_old-ended.ensures.after
+    (fewer_fit c.args.search.now.passed (map rows_of c.args.rows.now) c.requires.fits c.args.cell (cut q q.old here) (λ s h. cut_holds q q.old here s h))
