@@ -159,10 +159,28 @@ static void one_area(struct exchange *x, unsigned n)
     query_list(x, (struct list){LAC, 0, 0, n}, 16, 0);
 }
 
+static unsigned cells_of(unsigned entries)
+{
+    return entries < CELLS ? entries : CELLS;
+}
+
 static void all_by_ci(struct exchange *x, unsigned n)
 {
-    unsigned cells = n < CELLS ? n : CELLS;
+    unsigned cells = cells_of(n);
     query_list(x, (struct list){CI, 0, 1, cells}, cells, 0);
+}
+
+static void all_in_order(struct exchange *x, unsigned n)
+{
+    unsigned cells = cells_of(n);
+    query_list(x, (struct list){LAC_CI, 0, 1, cells}, cells, 0);
+}
+
+/* The last cell of the file first. */
+static void all_from_behind(struct exchange *x, unsigned n)
+{
+    unsigned cells = cells_of(n);
+    query_list(x, (struct list){LAC_CI, CELLS - 1, -1U, cells}, cells, 0);
 }
 
 static void pages(struct exchange *x, unsigned n)
@@ -214,10 +232,10 @@ static void print_series(struct series s, const unsigned *numbers, size_t count,
     printf("\n");
 }
 
-static void print_table(const char *of, const char *one, const unsigned *numbers, size_t count, const struct series *all, size_t most)
+static void print_table(const char *of, const char *one, const unsigned *numbers, size_t count, const struct series *all, size_t lines)
 {
     print_numbers(numbers, count, of);
-    for (size_t i = 0; i < most; i++)
+    for (size_t i = 0; i < lines; i++)
         print_series(all[i], numbers, count, one);
 }
 
@@ -261,6 +279,8 @@ static void by_entries(void)
         {"CI of no cell", no_cells_by_ci},
         {"LAC and CI of one cell", one_cell},
         {"CI of the last cell", last_cell_by_ci},
+        {"LAC and CI of cell after cell, at most 64", all_in_order},
+        {"the same, the last cell first", all_from_behind},
         {"CI of cell after cell, at most 64", all_by_ci},
         {"LAC of 16 cells", one_area},
     };

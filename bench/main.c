@@ -18,8 +18,7 @@ static const struct {
     {"codec", codec_table}, {"requests", request_tables}, {"periods", period_table}, {"memory", memory_table}, {"growth", growth_tables},
 };
 
-/* All is measured so many times, and printed the last time: other work on the machine comes and goes within seconds. */
-enum { TABLES = sizeof tables / sizeof *tables, PASSES = 4 };
+enum { TABLES = sizeof tables / sizeof *tables, MOST_PASSES = 100 };
 
 static bool is_asked(const char *name, int count, char **names)
 {
@@ -61,15 +60,31 @@ static bool is_table(const char *name)
     return false;
 }
 
+/* A number of passes; 0 for any other word. */
+static int passes_in(const char *word)
+{
+    char *end;
+    long passes = strtol(word, &end, 10);
+    return end != word && *end == '\0' && passes > 0 && passes <= MOST_PASSES ? (int)passes : 0;
+}
+
+/* Arguments: the number of passes, then tables. All is measured in each pass, and printed in the last: other work on the machine comes
+   and goes. */
 int main(int argc, char **argv)
 {
-    for (int i = 1; i < argc; i++)
-        if (!is_table(argv[i]))
+    int passes = argc > 1 ? passes_in(argv[1]) : 0, count = argc - 2;
+    char **names = argv + 2;
+    if (passes == 0) {
+        fprintf(stderr, "passes are 1 to %d\n", MOST_PASSES);
+        return 2;
+    }
+    for (int i = 0; i < count; i++)
+        if (!is_table(names[i]))
             return 2;
     fflush(stdout);
-    for (int pass = 1; pass < PASSES; pass++)
-        pass_in_silence(argc - 1, argv + 1);
-    print_tables(argc - 1, argv + 1);
+    for (int pass = 1; pass < passes; pass++)
+        pass_in_silence(count, names);
+    print_tables(count, names);
     if (checked_calls() > 0)
         printf("%" PRIu64 " calls were measured: each was accepted and got the reply that it should, and none allocated.\n", checked_calls());
     return 0;

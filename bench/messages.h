@@ -33,7 +33,8 @@ struct octets {
 
 enum discriminator { LAC_CI = 0x01, CI = 0x02, LAC = 0x05, ALL = 0x06 };
 
-/* Entries of a Cell List: those of the cells first, first + step, ..., so that a step of 0 repeats one and cells past the file name none. */
+/* Entries of a Cell List: those of the cells first, first + step, ..., so that a step of 0 repeats one, one of -1U
+   goes back, and cells past the file name none. */
 struct list {
     enum discriminator by;
     unsigned first, step, count;

@@ -14,7 +14,8 @@ use Rattle.outcomes.specs.Tells.{is_of, outcome_at, SoundFor, AllSound}
 use Rattle.replies.specs.Lists.{before, picked, whom_in}
 use Rattle.table.specs.declared.outcome.Outcome.{Outcome}
 use Rattle.table.specs.Outcomes.{no_cell}
-use Rattle.law.proofs.Meaning.{alone, meant_by, same_decides}
+use Rattle.naming.proofs.Alone.{same_decides}
+use Rattle.law.proofs.Meaning.{alone, meant_by}
 
 -- the entries of a list that mean an identity
 abbrev pub entries_of : Identity → List Entry → List Entry

@@ -1,33 +1,19 @@
 -- Which cell an entry of a reply means: those of an outcome the outcome's cell, and those that name no cell none.
 use Rattle.std.proofs.Common.{◌≡◌, ℕ, zero, suc, ◌+◌, ◌<◌, Bool, true, false, cond, eqb, List, [], ◌∷◌, length, get_or, None, Decides, refl, ap, ◌∙◌, arith}
 use Rattle.std.proofs.lemmas.Bool.{eqb-true, both_ways}
-use Rattle.std.proofs.lemmas.Bool.Decides.{same_from_decides, Decides-eqb, Decides-and, Decides-like}
+use Rattle.std.proofs.lemmas.Bool.Decides.{same_from_decides, Decides-eqb, Decides-like}
 use Rattle.book.specs.Told.{means}
-use Rattle.cells.specs.declared.cell.Capability.TheVariants.{NoChannel}
 use Rattle.cells.specs.declared.cell.Cell.{Cell}
-use Rattle.cells.specs.declared.cell.Identity.{Identity}
 use Rattle.cells.specs.File.{identities, same_identity, Apart}
 use Rattle.lists.specs.declared.cell.CellIdentity.{CellIdentity}
 use Rattle.lists.specs.declared.cell.CellIdentity.TheVariants.{LacCi, Ci, Lac, All}
 use Rattle.naming.specs.declared.naming.Naming.{Naming}
 use Rattle.naming.specs.declared.naming.Naming.TheVariants as naming
 use Rattle.naming.specs.Names.{is_found, names_from, names_only_first, names}
+use Rattle.naming.proofs.Alone.{past, same_decides}
 use Rattle.outcomes.specs.Tells.{is_of, outcome_at, SoundFor}
 use Rattle.replies.specs.Lists.{whom_in, identity_at}
 use Rattle.table.specs.declared.outcome.Outcome.{Outcome}
-
--- two identities are one where both numbers agree
-abbrev identity : ℕ → ℕ → Identity
-identity lac ci = record { lac = lac; ci = ci }
-
-same_identity_lem : (a b : Identity) → (a.lac ≡ b.lac) × (a.ci ≡ b.ci) → a ≡ b
-same_identity_lem a b p = ap (λ (n : ℕ). identity n a.ci) p.0 ∙ ap (identity b.lac) p.1
-
-pub same_decides : (a b : Identity) → Decides (same_identity a b) (a ≡ b)
-same_decides a b =
-    Decides-like (same_identity a b) (same_identity_lem a b)
-    (λ e. (ap (λ (x : Identity). x.lac) e, ap (λ (x : Identity). x.ci) e))
-    (Decides-and (eqb a.lac b.lac) (eqb a.ci b.ci) (Decides-eqb a.lac b.lac) (Decides-eqb a.ci b.ci))
 
 -- cells that are apart are meant by their own entries alone
 pub same_cell : (cells : List Cell) (k j : ℕ) → Apart cells → k < length cells → j < length cells → means (identities cells k) (identity_at cells j) ≡ eqb k j
@@ -35,9 +21,6 @@ same_cell cells k j apart lk lj =
     same_from_decides (same_identity (identities cells k) (identities cells j)) (eqb k j)
     (Decides-like (same_identity (identities cells k) (identities cells j)) (apart k j lk lj) (λ e. ap (identities cells) e) (same_decides (identities cells k) (identities cells j)))
     (Decides-eqb k j)
-
-abbrev pub past : Cell
-past = record { identity = record { lac = 0; ci = 0 }; capability = NoChannel }
 
 -- an entry that names no cell finds none
 none_found : (e : CellIdentity) (n : ℕ) (cells : List Cell) (k : ℕ) → names_from e n cells ≡ [] → k < length cells → is_found e (get_or cells k past) ≡ false

@@ -1,3 +1,4 @@
 pub mod Clearing
 pub mod Stepping
+pub mod Alone
 pub mod Onces

@@ -4,7 +4,7 @@ use crate::octets::octets_of;
 use crate::script::Order;
 use crate::seen::Seen;
 use crate::sums::Sums;
-use crate::told::{Needed, Outcome, Said, TypeOf};
+use crate::told::{LinkKind, Outcome, Said, TypeOf};
 use cbsp::channel::Channel;
 use cbsp::framing::LONGEST;
 use cells::cell::Cell;
@@ -38,13 +38,13 @@ impl<P: Print, S: Site> Rehearsal<'_, '_, '_, P, S> {
         };
         match order {
             Order::Open => self.open(said),
-            Order::Announce(link) => self.answer(said, Call::Announce { link }, Needed::Waiting),
+            Order::Announce(link) => self.answer(said, Call::Announce { link }, LinkKind::Waiting),
             Order::Message { link, octets } => self.message(said, link, octets),
             Order::Periods(count) => self.periods(said, count),
             Order::Lose { link, cell } => self.answer(
                 said,
                 Call::Lose { link, cell },
-                Needed::Open,
+                LinkKind::Open,
             ),
             Order::Return {
                 link,
@@ -56,7 +56,7 @@ impl<P: Print, S: Site> Rehearsal<'_, '_, '_, P, S> {
                     cell,
                     recovery,
                 };
-                self.answer(said, call, Needed::Open)
+                self.answer(said, call, LinkKind::Open)
             }
             Order::Shut(link) => self.shut(said, link),
             Order::Overdue => {
@@ -94,18 +94,18 @@ impl<P: Print, S: Site> Rehearsal<'_, '_, '_, P, S> {
                 self.openings = self.openings.saturating_add(1);
                 println!(self.rt; "{said}: link {}", self.openings)
             }
-            report => self.tell(said, report, Needed::Any),
+            report => self.tell(said, report, LinkKind::Any),
         }
     }
 
     fn shut(&mut self, said: Said<'_>, link: u16) -> io::Result<()> {
         match self.make(Call::Shut { link }) {
             Report::Done(_) => println!(self.rt; "{said}: done"),
-            report => self.tell(said, report, Needed::Any),
+            report => self.tell(said, report, LinkKind::Any),
         }
     }
 
-    fn tell(&self, said: Said<'_>, report: Report, needed: Needed) -> io::Result<()> {
+    fn tell(&self, said: Said<'_>, report: Report, needed: LinkKind) -> io::Result<()> {
         let sent = &self.space[..report.len().min(LONGEST)];
         let outcome = Outcome {
             report,
@@ -116,7 +116,7 @@ impl<P: Print, S: Site> Rehearsal<'_, '_, '_, P, S> {
     }
 
     // A call that is answered in octets, which are explained below.
-    fn answer(&mut self, said: Said<'_>, call: Call<'_>, needed: Needed) -> io::Result<()> {
+    fn answer(&mut self, said: Said<'_>, call: Call<'_>, needed: LinkKind) -> io::Result<()> {
         let report = self.make(call);
         self.tell(said, report, needed)?;
         self.explain(report.len())
@@ -144,7 +144,7 @@ impl<P: Print, S: Site> Rehearsal<'_, '_, '_, P, S> {
         let octets = octets_of(self.heap, text)?;
         let octets = octets.as_slice();
         let report = self.make(Call::Message { link, octets });
-        self.tell(said, report, Needed::Open)?;
+        self.tell(said, report, LinkKind::Open)?;
         let Report::Done(answered) = report else {
             return Ok(());
         };

@@ -60,18 +60,18 @@ impl fmt::Display for TypeOf<'_> {
 
 // The link that a call needs.
 #[derive(Clone, Copy)]
-pub enum Needed {
+pub enum LinkKind {
     Any,
     Waiting,
     Open,
 }
 
-impl fmt::Display for Needed {
+impl fmt::Display for LinkKind {
     fn fmt<W: fmt::Write>(&self, f: &mut fmt::Formatter<W>) -> fmt::Result {
         f.write_str(match self {
-            Needed::Any => "link",
-            Needed::Waiting => "waiting link",
-            Needed::Open => "open link",
+            LinkKind::Any => "link",
+            LinkKind::Waiting => "waiting link",
+            LinkKind::Open => "open link",
         })
     }
 }
@@ -81,7 +81,7 @@ impl fmt::Display for Needed {
 pub struct Outcome<'a> {
     pub report: Report,
     pub sent: &'a [u8],
-    pub needed: Needed,
+    pub needed: LinkKind,
 }
 
 impl fmt::Display for Outcome<'_> {

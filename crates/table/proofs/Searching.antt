@@ -1,6 +1,7 @@
 -- The search for a free slot, look by look.
 use Rattle.std.proofs.Common.{◌≡◌, ℕ, zero, suc, ◌+◌, ◌-◌, ◌<◌, ◌≤◌, ◌≢◌, Bool, true, false, cond, not, eqb, ltb, ◌||◌, ◌⊎◌, inl, inr, List, [], ◌∷◌, ◌++◌, map, length, get_or, take, drop, set, replicate, Some, None, Option, sym, refl, ap, ◌∙◌, arith}
 use Rattle.std.specs.List.{find, list_any, position, position_or_len, range_with_len}
+use Rattle.std.specs.Option.{option_map_or}
 use Rattle.std.proofs.lemmas.Bool.{ltb-true, ltb-false, or_from, or_parts}
 use Rattle.std.proofs.lemmas.Option.{none-some, cond_some}
 use Rattle.std.proofs.lemmas.Bool.Decides.{eqb_tells}
@@ -14,7 +15,7 @@ use Rattle.rows.specs.declared.rows.Rows.{Rows}
 use Rattle.rows.specs.Held.{rows_of}
 use Rattle.rows.specs.Keys.{is_same, without}
 use Rattle.table.specs.declared.asked.Asked.{Asked}
-use Rattle.table.specs.Pool.{Fits, has_slot, holds, is_used, none_passed}
+use Rattle.table.specs.Pool.{PassedHoldNone, has_slot, holds, is_used, moved_on, none_passed}
 use Rattle.table.specs.Write.{cut, key_in}
 
 module _ {X : Type 0} (p : X → Bool) where
@@ -104,16 +105,16 @@ zeroed [] i = refl
 zeroed (n ∷ ks) zero = refl
 zeroed (n ∷ ks) (suc i) = zeroed ks i
 
-moved_on : (passed : List ℕ) (ts : List (List Row)) (s k : ℕ) → Fits passed ts → k ≤ length ts → is_used (take k ts) s ≡ false → Fits (set passed s k) ts
-moved_on passed ts s k fits within none j = by (get_set passed s j k)
+went_on : (passed : List ℕ) (ts : List (List Row)) (s k : ℕ) → PassedHoldNone passed ts → k ≤ length ts → is_used (take k ts) s ≡ false → PassedHoldNone (set passed s k) ts
+went_on passed ts s k hold within none j = by (get_set passed s j k)
   where
     by : (get_or (set passed s k) j 0 ≡ get_or passed j 0) ⊎ ((s ≡ j) × (get_or (set passed s k) j 0 ≡ k))
         → (get_or (set passed s k) j 0 ≤ length ts) × (is_used (take (get_or (set passed s k) j 0) ts) j ≡ false)
-    by (inl e) = rw e (fits j)
+    by (inl e) = rw e (hold j)
     by (inr e) = rw e.1 (within, rw (← e.0) none)
 
 -- a look, as the code cuts off what is left to look through; it reads the slot as a place
-module _ (cells : List Rows) (passed : List ℕ) (fits : Fits passed (map rows_of cells)) (s : ℕ) where
+module _ (cells : List Rows) (passed : List ℕ) (hold : PassedHoldNone passed (map rows_of cells)) (s : ℕ) where
   abbrev left : ℕ → List (List Row)
   left n = map rows_of (take (length cells - get_or passed n 0) (drop (get_or passed n 0) cells))
 
@@ -126,29 +127,32 @@ module _ (cells : List Rows) (passed : List ℕ) (fits : Fits passed (map rows_o
   looks_on n is = ap (λ m. position (holds s) (left m)) is ∙ ap (position (holds s)) left_is
 
   pub looked_none : (n : ℕ) → n ≡ s → None ≡ position (holds s) (left n) → is_used (map rows_of cells) s ≡ false
-  looked_none n is e = none_further (map rows_of cells) (get_or passed s 0) s (fits s).1 (e ∙ looks_on n is)
+  looked_none n is e = none_further (map rows_of cells) (get_or passed s 0) s (hold s).1 (e ∙ looks_on n is)
 
-  pub looked_some : (n k : ℕ) → n ≡ s → Some k ≡ position (holds s) (left n) → (is_used (map rows_of cells) s ≡ true) × Fits (set passed n (get_or passed n 0 + k)) (map rows_of cells)
+  pub looked_some : (n k : ℕ) → n ≡ s → Some k ≡ position (holds s) (left n) → (is_used (map rows_of cells) s ≡ true) × PassedHoldNone (set passed n (get_or passed n 0 + k)) (map rows_of cells)
   looked_some n k is e =
       let ts = map rows_of cells in
       let from = get_or passed s 0 in
-      let f = further ts from s (fits s).1 k (e ∙ looks_on n is) in
-      let within : from + k ≤ length ts = omega (arith, (fits s).0, f.1, length-drop from ts) in
-      (f.0, rw is (moved_on passed ts s (from + k) fits within f.2))
+      let f = further ts from s (hold s).1 k (e ∙ looks_on n is) in
+      let within : from + k ≤ length ts = omega (arith, (hold s).0, f.1, length-drop from ts) in
+      (f.0, rw is (went_on passed ts s (from + k) hold within f.2))
+
+  pub moved : (n : ℕ) → n ≡ s → (o : Option ℕ) → o ≡ position (holds s) (left n) → option_map_or (λ k. set passed n (get_or passed n 0 + k)) o passed ≡ moved_on passed (map rows_of cells) s
+  moved n is o e = rw is (ap (λ p. option_map_or (λ k. set passed s (get_or passed s 0 + k)) p passed) (e ∙ looks_on n is))
 
 -- a message begins in a cell, and its slot's look begins anew
-module _ (passed : List ℕ) (ts : List (List Row)) (fits : Fits passed ts) (c : ℕ) where
+module _ (passed : List ℕ) (ts : List (List Row)) (hold : PassedHoldNone passed ts) (c : ℕ) where
   abbrev at : ℕ → List Row → Type 0
   at s rs = (get_or passed s 0 ≤ length (set ts c rs)) × (is_used (take (get_or passed s 0) (set ts c rs)) s ≡ false)
 
   -- the cell then holds a slot only if it did
   fewer_at : (s : ℕ) (rs : List Row) → (holds s (get_or ts c []) ≡ false → holds s rs ≡ false) → at s rs
-  fewer_at s rs less = (rw (length-set ts c rs) (fits s).0, fewer (holds s) (get_or passed s 0) ts c rs [] less (fits s).1)
+  fewer_at s rs less = (rw (length-set ts c rs) (hold s).0, fewer (holds s) (get_or passed s 0) ts c rs [] less (hold s).1)
 
-  pub fewer_fit : (rs : List Row) → ((s : ℕ) → holds s (get_or ts c []) ≡ false → holds s rs ≡ false) → Fits passed (set ts c rs)
+  pub fewer_fit : (rs : List Row) → ((s : ℕ) → holds s (get_or ts c []) ≡ false → holds s rs ≡ false) → PassedHoldNone passed (set ts c rs)
   fewer_fit rs less s = fewer_at s rs (less s)
 
-  pub one_more_fits : (r : Row) → Fits (set passed r.slot 0) (set ts c (get_or ts c [] ++ r ∷ []))
+  pub one_more_fits : (r : Row) → PassedHoldNone (set passed r.slot 0) (set ts c (get_or ts c [] ++ r ∷ []))
   one_more_fits r s = by (eqb_tells r.slot s)
     where
       rs : List Row
@@ -176,7 +180,7 @@ cut_holds q None rs s e = e
 cut_holds q (Some serial) rs s e = without_holds (is_same (key_in q serial)) rs s e
 
 -- at first no cell was passed
-pub none_fit : (ts : List (List Row)) → Fits none_passed ts
+pub none_fit : (ts : List (List Row)) → PassedHoldNone none_passed ts
 none_fit ts s = rw (zeros 32 s) (omega arith, refl)
   where
     zeros : (n i : ℕ) → get_or (replicate n zero) i zero ≡ zero

@@ -4,7 +4,7 @@ ghost use Rattle.std.specs.List.{AllByRecursion};
 ghost use Rattle.rows.specs.Held.{rows_of};
 ghost use Rattle.naming.specs.Namings.{IsThere};
 ghost use Rattle.table.specs.Handling.{capability_at, comes_of, handled, request_on, rows_on, stage};
-ghost use Rattle.table.specs.Pool.{Fits};
+ghost use Rattle.table.specs.Pool.{PassedHoldNone};
 
 use crate::outcome::Outcome;
 use crate::pool::Search;
@@ -35,11 +35,11 @@ fn handle_one<R: CellRequest, S: Site>(
     naming: Naming,
 ) -> Outcome
     requires there { IsThere (length rows.old) naming }
-    requires fits { Fits search.old.passed (map rows_of rows.old) }
+    requires passed { PassedHoldNone search.old.passed (map rows_of rows.old) }
     ensures comes { result ≡ comes_of R.CellRequest.acts cells.now (S.Site.model site.now).opened request.old (map rows_of rows.old) naming }
     ensures rows { map rows_of rows.new ≡ rows_on R.CellRequest.acts cells.now (S.Site.model site.now).opened request.old (map rows_of rows.old) naming }
     ensures request { request.new ≡ request_on R.CellRequest.acts cells.now (S.Site.model site.now).opened request.old (map rows_of rows.old) naming }
-    ensures fits { Fits search.new.passed (map rows_of rows.new) }
+    ensures passed { PassedHoldNone search.new.passed (map rows_of rows.new) }
 {
     match naming {
         Naming::Cell(cell) => {

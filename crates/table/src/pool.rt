@@ -2,19 +2,17 @@
 ghost use Rattle.std.specs.Prelude.{◌≡◌, ◌<◌, IfSome, map, length, slice_set};
 ghost use Rattle.std.specs.List.{position};
 ghost use Rattle.rows.specs.Held.{rows_of};
-ghost use Rattle.table.specs.Pool.{Fits, free_slot, holds, is_used, none_passed};
+ghost use Rattle.table.specs.Pool.{PassedHoldNone, free_slot, holds, is_used, moved_on, none_passed};
 
-use crate::write::SLOTS;
+use crate::write::{CONTENTS, SLOTS};
 use rows::row::Row;
 use rows::rows::Rows;
-
-const PLACES: usize = SLOTS as usize;
 
 // What the looks of one request know: for each slot, how many cells, from the first on, do not hold it. While
 // messages only end that stays so, and the looks together pass each cell once for each slot.
 #[derive(Clone, Copy, PartialEq, Eq, Debug)]
 pub struct Search {
-    passed: [usize; PLACES],
+    passed: [usize; CONTENTS],
 }
 
 fn is_held(rows: &[Row], slot: u8) -> bool
@@ -37,16 +35,17 @@ impl Search {
         ensures { result.passed ≡ none_passed }
     {
         Search {
-            passed: [0; PLACES],
+            passed: [0; CONTENTS],
         }
     }
 
     // Whether a cell holds the slot: the look goes on where the last one for it ended.
     fn is_used(&mut self, cells: &[Rows], slot: u8) -> bool
         requires below { slot < 32 }
-        requires fits { Fits self.old.passed (map rows_of cells.now) }
+        requires passed { PassedHoldNone self.old.passed (map rows_of cells.now) }
         ensures value { result ≡ is_used (map rows_of cells.now) slot }
-        ensures fits { Fits self.new.passed (map rows_of cells.now) }
+        ensures passed { PassedHoldNone self.new.passed (map rows_of cells.now) }
+        ensures moved { self.new.passed ≡ moved_on self.old.passed (map rows_of cells.now) slot }
     {
         let place = usize::from(slot);
         let from = self.passed[place];
@@ -59,9 +58,9 @@ impl Search {
 
     // The lowest slot that is free, nothing where all are in use.
     pub(crate) fn free_slot(&mut self, cells: &[Rows]) -> Option<u8>
-        requires { Fits self.old.passed (map rows_of cells.now) }
+        requires { PassedHoldNone self.old.passed (map rows_of cells.now) }
         ensures value { result ≡ free_slot (map rows_of cells.now) }
-        ensures fits { Fits self.new.passed (map rows_of cells.now) }
+        ensures passed { PassedHoldNone self.new.passed (map rows_of cells.now) }
     {
         for slot in 0..SLOTS {
             if !self.is_used(cells, slot) {
@@ -77,7 +76,7 @@ impl Search {
         ensures { self.new.passed ≡ slice_set self.old.passed slot 0 }
     {
         let place = usize::from(slot);
-        if place < PLACES {
+        if place < CONTENTS {
             self.passed[place] = 0;
         }
     }

@@ -2,7 +2,7 @@
 ghost use Rattle.std.specs.Prelude.{◌≡◌, ◌<◌, map, length};
 ghost use Rattle.rows.specs.Held.{rows_of};
 ghost use Rattle.table.specs.Acts.{Acts};
-ghost use Rattle.table.specs.Pool.{Fits};
+ghost use Rattle.table.specs.Pool.{PassedHoldNone};
 ghost use Rattle.table.specs.Settings.{setting};
 
 use crate::outcome::Outcome;
@@ -23,9 +23,9 @@ pub trait CellRequest {
         opened: bool,
     ) -> Outcome
         requires there { cell < length rows.old }
-        requires fits { Fits search.old.passed (map rows_of rows.old) }
+        requires passed { PassedHoldNone search.old.passed (map rows_of rows.old) }
         ensures answer { result ≡ acts.answer self.old (setting (map rows_of rows.old) cell capability opened) }
         ensures leaves { map rows_of rows.new ≡ acts.leaves self.old (setting (map rows_of rows.old) cell capability opened) }
         ensures becomes { self.new ≡ acts.becomes self.old (setting (map rows_of rows.old) cell capability opened) }
-        ensures fits { Fits search.new.passed (map rows_of rows.new) };
+        ensures passed { PassedHoldNone search.new.passed (map rows_of rows.new) };
 }

@@ -1,5 +1,6 @@
 // A request over its Cell List, and the lists of its reply.
 ghost use Rattle.std.specs.Prelude.{◌≡◌, ◌≤◌, [], map, length, replicate, IfOk};
+ghost use Rattle.cells.specs.File.{Apart};
 ghost use Rattle.lists.specs.CellLists.{cells_meant};
 ghost use Rattle.naming.specs.Namings.{named_by};
 ghost use Rattle.rows.specs.Held.{rows_of};
@@ -74,6 +75,7 @@ impl Work {
         list: Cells<'_>,
         marks: &mut [u8; MOST_CELLS],
     )
+        requires apart { Apart cells.now }
         requires few { length (named_by (cells_meant list)) ≤ 128 }
         requires known { length rows.old ≡ length cells.now }
         ensures worked { stage request.new (map rows_of rows.new) self.new.outcomes ≡ worked R.CellRequest.acts cells.now (S.Site.model site.now).opened request.old (map rows_of rows.old) (cells_meant list.entry) }
@@ -112,6 +114,7 @@ impl Work {
         list: Cells<'_>,
         marks: &mut [u8; MOST_CELLS],
     )
+        requires apart { Apart cells.now }
         requires few { length (named_by (cells_meant list)) ≤ 128 }
         requires known { length rows.old ≡ length cells.now }
         ensures ran { Ran cells.now (worked R.CellRequest.acts cells.now (S.Site.model site.now).opened request.old (map rows_of rows.old) (cells_meant list.entry)) request.new (map rows_of rows.new) self.new }

@@ -15,10 +15,7 @@ use replies::work::Work;
 use rows::content::Content;
 use rows::rows::Rows;
 use std::alloc::{AllocError, Global};
-use table::write::SLOTS;
-
-// The contents that serve a table. as: a const can't call From.
-const CONTENTS: usize = SLOTS as usize;
+use table::write::CONTENTS;
 
 // A cell as a Cell List names it. No From: neither type is of this crate.
 fn entry_of(cell: &Cell) -> CellEntry

@@ -2,7 +2,7 @@
 ghost use Rattle.std.specs.Prelude.{◌≡◌, ◌<◌, Some, map, length};
 ghost use Rattle.rows.specs.Held.{rows_of};
 ghost use Rattle.table.specs.AtCell.{rows_at, with_rows};
-ghost use Rattle.table.specs.Pool.{Fits};
+ghost use Rattle.table.specs.Pool.{PassedHoldNone};
 ghost use Rattle.table.specs.Write.{barred, blocked, cut, ended_by, has_channel, key_in, lacks, row_of, slot_for, supports, unless};
 
 use crate::asked::Asked;
@@ -34,9 +34,9 @@ fn is_supported(capability: Capability, channel: Channel) -> bool
 
 // The request's own slot, else one that is free.
 pub(crate) fn slot_for(rows: &[Rows], search: &mut Search, slot: Option<u8>) -> Option<u8>
-    requires { Fits search.old.passed (map rows_of rows.now) }
+    requires { PassedHoldNone search.old.passed (map rows_of rows.now) }
     ensures value { result ≡ slot_for (map rows_of rows.now) slot }
-    ensures fits { Fits search.new.passed (map rows_of rows.now) }
+    ensures passed { PassedHoldNone search.new.passed (map rows_of rows.now) }
 {
     match slot {
         Some(_) => slot,

@@ -3,7 +3,7 @@ ghost use Rattle.std.specs.Prelude.{◌≡◌, ◌<◌, [], ◌∷◌, ◌++◌,
 ghost use Rattle.std.specs.Option.{unwrap_or};
 ghost use Rattle.rows.specs.Held.{rows_of};
 ghost use Rattle.table.specs.AtCell.{rows_at, with_rows};
-ghost use Rattle.table.specs.Pool.{Fits};
+ghost use Rattle.table.specs.Pool.{PassedHoldNone};
 ghost use Rattle.table.specs.Write.{blocked, row_of, slot_for, unless, write_acts};
 
 use super::Write;
@@ -27,11 +27,11 @@ fn begin(
     slot: &mut Option<u8>,
 ) -> Result<(), Cause>
     requires there { cell < length rows.old }
-    requires fits { Fits search.old.passed (map rows_of rows.old) }
+    requires passed { PassedHoldNone search.old.passed (map rows_of rows.old) }
     ensures answer { result ≡ unless (blocked asked.now (rows_at rows.old cell) (slot_for (map rows_of rows.old) slot.old)) tt }
     ensures rows { map rows_of rows.new ≡ (if is_ok result then with_rows rows.old cell (rows_at rows.old cell ++ row_of asked.now (unwrap_or (slot_for (map rows_of rows.old) slot.old) 0) ∷ []) else map rows_of rows.old) }
     ensures slot { slot.new ≡ (if is_ok result then slot_for (map rows_of rows.old) slot.old else slot.old) }
-    ensures fits { Fits search.new.passed (map rows_of rows.new) }
+    ensures passed { PassedHoldNone search.new.passed (map rows_of rows.new) }
 {
     asked.block(rows_at(rows, cell))?;
     let own = slot_for(rows, search, *slot).ok_or(Cause::BscMemoryExceeded)?;

@@ -1,30 +1,16 @@
-use Rattle.std.proofs.Common.{◌+◌, true, sym, ◌∙◌, subst, arith}
-use Rattle.naming.specs.Namings.{Stage}
-use Rattle.naming.specs.Walks.{stage_of}
-use Rattle.naming.proofs.Clearing.{at_most_noted}
-use Rattle.naming.proofs.Stepping.{Walked, walk_skip, walk_take}
+use Rattle.std.proofs.Common.{◌+◌, fold, sym, ap, ◌∙◌}
+use Rattle.naming.specs.Namings.{is_some, noted}
+use Rattle.naming.specs.Walks.{behind, stage_of}
+use Rattle.naming.proofs.Alone.{named_alone, next_behind}
 use Rattle.naming.proofs.walk.Walk.note_names.Goals as goal
-use Rattle.naming.proofs.walk.Walk.note_names.Goals.{then-is_meant+else-names_only_first, else-is_meant}
 
-pub loop-k-preserved : goal.loop-k-preserved
-loop-k-preserved c =
-    let e = c.args.identity in
-    let cs = c.args.cells.now in
-    let s : Stage = stage_of c.loop-k.self in
-    let start : Stage = stage_of c.args.self.now in
-    let inv = c.loop-k.invariant in
-    elim c.if-is_meant.branch [
-      | then-is_meant+else-names_only_first w ↦
-          let more =
-          walk_take e cs c.loop-k.k _ c.loop-k.found s start c.loop-k-test.true (sym w.if-is_meant.ensures)
-          (sym w.if-names_only_first.ensures) inv.walked in
-          let same = at_most_noted s (stage_of w.note.new.self) c.loop-k.k w.note.ensures.noted in
-          simp (w.self-is, w.found-is) record {
-            walked = subst (λ (t : Stage). Walked e cs (c.loop-k.k + 1) true t start) (sym w.note.ensures.noted) more;
-            room = omega (arith, same, inv.room);
-            same = (w.note.ensures.same.0 ∙ inv.same.0, w.note.ensures.same.1 ∙ inv.same.1);
-          }
-      | else-is_meant w ↦
-          let more = walk_skip e cs c.loop-k.k _ c.loop-k.found s start c.loop-k-test.true (sym w.if-is_meant.ensures) inv.walked in
-          simp (w.self-is, w.found-is) record { walked = more; room = inv.room; same = inv.same }
-    ]
+pub returns : goal.returns
+returns c =
+    let next = c.args.self.now.next in
+    let alone = named_alone c.args.cells.now c.requires.apart next c.args.identity (sym c.if-not-is_next.ensures) in
+    record {
+      found = ap is_some (sym alone);
+      noted = c.note.ensures.noted ∙ ap (fold noted (stage_of c.args.self.now)) (sym alone);
+      next = ap (λ n. n + 1) c.note.ensures.next ∙ sym (next_behind c.args.cells.now next c.args.identity (sym c.if-not-is_next.ensures)) ∙ ap (behind c.args.identity next) (sym alone);
+      same = c.note.ensures.same;
+    }

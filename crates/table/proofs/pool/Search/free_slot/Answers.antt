@@ -14,7 +14,7 @@ returns-then-not-is_used-clause-value c =
 
 pub loop-slot-preserved : goal.loop-slot-preserved
 loop-slot-preserved c =
-    (c.is_used.ensures.fits, c.loop-slot.invariant.1 ∙ used_here (map rows_of c.args.cells.now) c.loop-slot.slot c.loop-slot-test.true (sym c.if-not-is_used.ensures.value))
+    (c.is_used.ensures.passed, c.loop-slot.invariant.1 ∙ used_here (map rows_of c.args.cells.now) c.loop-slot.slot c.loop-slot-test.true (sym c.if-not-is_used.ensures.value))
 
 pub returns-clause-value : goal.returns-clause-value
 returns-clause-value c = sym (c.loop-slot.invariant.1 ∙ none_left (map rows_of c.args.cells.now) c.loop-slot.slot c.loop-slot-test.false)

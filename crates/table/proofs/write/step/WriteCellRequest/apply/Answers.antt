@@ -16,7 +16,7 @@ returns-in-Err c =
     let s : Setting = setting (map rows_of c.args.rows.now) c.args.cell c.args.capability c.args.opened in
     let answered = c.in-Err.ensures ∙ ap (λ (rs : List Row). unless (barred w.asked c.args.capability c.args.opened rs) tt) c.rows_at.ensures in
     let r = stopped w s c.in-Err.cause (cause_of (bar w s) (Err c.in-Err.cause) answered) in
-    record { answer = r.answer; leaves = r.leaves; becomes = r.becomes; fits = c.requires.fits }
+    record { answer = r.answer; leaves = r.leaves; becomes = r.becomes; passed = c.requires.passed }
 
 pub returns : goal.returns
 returns c =
@@ -32,12 +32,12 @@ returns c =
       answer = ap (λ (o : Option Cause). outcome s.cell c.end_old-ended.result o) c.err-cause.ensures.value ∙ r.answer;
       leaves = r.leaves;
       becomes = r.becomes;
-      fits = c.begin.ensures.fits;
+      passed = c.begin.ensures.passed;
     }
 
-pub begin-requires-clause-fits : goal.begin-requires-clause-fits
-begin-requires-clause-fits c =
+pub begin-requires-clause-passed : goal.begin-requires-clause-passed
+begin-requires-clause-passed c =
     let q = c.args.self.now.asked in
     let here = rows_at c.args.rows.now c.args.cell in
     rw c.end_old-ended.ensures.after
-    (fewer_fit c.args.search.now.passed (map rows_of c.args.rows.now) c.requires.fits c.args.cell (cut q q.old here) (λ s h. cut_holds q q.old here s h))
+    (fewer_fit c.args.search.now.passed (map rows_of c.args.rows.now) c.requires.passed c.args.cell (cut q q.old here) (λ s h. cut_holds q q.old here s h))
