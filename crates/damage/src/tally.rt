@@ -17,7 +17,9 @@ pub struct Tally {
 }
 
 // Whether a message is written to the octets that it was read from. The space is its own, as that of samples:
-// here the octets are compared, there they are printed.
+// here the octets are compared, there they are printed. Out of line: else it is cleared for each octet string,
+// also where no message is read.
+#[inline(never)]
 fn is_written_back(message: Message<'_>, octets: &[u8]) -> bool {
     let mut space = [0u8; LONGEST];
     let length = write_message(&mut space, message);

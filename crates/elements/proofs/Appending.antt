@@ -12,7 +12,7 @@ writes_then xs ys a b c h p q =
     = wrote_then xs ys a.at a.out.now b.out.now c.out.now b.at c.at h (record { octets = p.octets; place = p.place }) (record { octets = q.octets; place = q.place }) in
     record { lender = q.lender ∙ p.lender; octets = w.octets; place = w.place }
 
-pub limited_some : (f : Bool) (xs : List ℕ) (n : ℕ) → Some n ≡ limited f xs → (f ≡ true) × (length xs ≡ n) × (n ≤ 2044)
+pub limited_some : (f : Bool) (xs : List ℕ) (n : ℕ) → Some n ≡ limited f xs → (f ≡ true) × (length xs ≡ n) × (n ≤ 65535)
 limited_some true xs n e = grind (arith, common_steps)
 limited_some false xs n e = absurd cc
 

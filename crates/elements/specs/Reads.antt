@@ -4,10 +4,10 @@ use Rattle.elements.specs.declared.faults.ElementFault.{ElementFault}
 use Rattle.elements.specs.declared.faults.ElementFault.TheVariants.{RunsPast}
 use Rattle.elements.specs.declared.reader.Reader.{Reader}
 
--- the answer is the definition's, where m says what a value means, and the reader stands behind what was read
+-- the answer is the definition's, where m says what a value means, the reader has the octets that it had, and stands behind what was read
 abbrev pub Reads : {X V F : Type 0} → (X → V) → Reader → Result X F → Reader → Result (V × ℕ) F → Type 0
 Reads m was (Ok x) is s = (s ≡ Ok (m x, is.at)) × (is.octets ≡ was.octets)
-Reads m was (Err e) is s = s ≡ Err e
+Reads m was (Err e) is s = (s ≡ Err e) × (is.octets ≡ was.octets)
 
 -- the octet at a place, of an element that begins at `start`
 abbrev pub octet_at : ℕ → List ℕ → ℕ → Result ℕ ElementFault

@@ -13,9 +13,9 @@ pub record Writes (xs : List ℕ) (was is : Writer) : Type 0 where
 abbrev pub Room : List ℕ → Writer → Type 0
 Room xs w = w.at + length xs ≤ length w.out.now
 
--- as many octets, nothing where they are more than a message has behind its header
+-- as many octets, nothing where they are more than two octets count
 abbrev pub limit : ℕ → Option ℕ
-limit n = cond (nat_le n 2044) (Some n) None
+limit n = cond (nat_le n 65535) (Some n) None
 
 -- how many octets a value has, nothing where it is out of range or has too many
 abbrev pub limited : Bool → List ℕ → Option ℕ

@@ -16,6 +16,9 @@ use std::marker::PhantomData;
 // The most octets that elements of a message have.
 pub const MOST: usize = LONGEST - HEADER;
 
+// The most octets that elements are counted to have, also where no message has them.
+pub const MOST_COUNTED: usize = 65535;
+
 // Like Element, but of a Codec, which reads identifiers too, and may find nothing.
 pub trait Elements<'a> {
     type Value: Copy;
@@ -41,11 +44,11 @@ pub trait Elements<'a> {
         ensures { Writes (codec.spell (meant value)) writer.old writer.new };
 }
 
-// As many octets, where a message can have them.
+// As many octets, where two octets can count them.
 pub fn limit(octets: usize) -> Option<usize>
     ensures { result ≡ limit octets }
 {
-    (octets <= MOST).then_some(octets)
+    (octets <= MOST_COUNTED).then_some(octets)
 }
 
 // An element that must be there.

@@ -14,7 +14,6 @@ use crate::recovery::Recovery;
 use crate::writer::Writer;
 use crate::{category, cause};
 use cbsp::channel;
-use cbsp::octets::two_at;
 use std::marker::PhantomData;
 
 // A number of two octets from LO to HI.
@@ -35,17 +34,8 @@ impl<'a, const ID: u8, const LO: u16, const HI: u16> Element<'a> for Number<ID, 
 
     ghost body = { number_body LO HI };
 
-    // What is left is asked before the octets: a number cut off is another fault than one out of range.
     fn read(reader: &mut Reader<'a>, start: usize) -> Result<u16, ElementFault> {
-        if reader.left() < 2 {
-            return Err(ElementFault::RunsPast(start));
-        }
-        let number = two_at(reader.octets, reader.at);
-        if !(LO..=HI).contains(&number) {
-            return Err(ElementFault::OutOfRange(reader.at));
-        }
-        reader.at += 2;
-        Ok(number)
+        reader.number(start, LO, HI)
     }
 
     fn width(value: u16) -> Option<usize> {
@@ -76,12 +66,7 @@ impl<'a, const ID: u8, const LO: u8, const HI: u8> Element<'a> for Octet<ID, LO,
     ghost body = { octet_body LO HI };
 
     fn read(reader: &mut Reader<'a>, start: usize) -> Result<u8, ElementFault> {
-        let value = reader.octet(start)?;
-        if !(LO..=HI).contains(&value) {
-            return Err(ElementFault::OutOfRange(reader.at));
-        }
-        reader.at += 1;
-        Ok(value)
+        reader.octet_within(start, LO, HI)
     }
 
     fn width(value: u8) -> Option<usize> {
@@ -112,12 +97,7 @@ impl<'a, const ID: u8, C: Coded + Copy> Element<'a> for Code<ID, C> {
     ghost body = { coded_body C.Coded.encode C.Coded.decode };
 
     fn read(reader: &mut Reader<'a>, start: usize) -> Result<C, ElementFault> {
-        let octet = reader.octet(start)?;
-        let Ok(value) = C::try_from(octet) else {
-            return Err(ElementFault::OutOfRange(reader.at));
-        };
-        reader.at += 1;
-        Ok(value)
+        reader.coded(start)
     }
 
     fn width(_value: C) -> Option<usize> {
@@ -130,7 +110,7 @@ impl<'a, const ID: u8, C: Coded + Copy> Element<'a> for Code<ID, C> {
 }
 
 // The identifier of an Emergency Indicator.
-const EMERGENCY_INDICATOR: u8 = 0x0f;
+pub const EMERGENCY_INDICATOR: u8 = 0x0f;
 
 pub type OldSerialNumber = Number<0x02, 0, 65535>;
 

@@ -1,11 +1,13 @@
 // Reading, element by element.
 ghost use Rattle.std.specs.Prelude.{◌≡◌, ◌+◌, ◌≤◌, length};
-ghost use Rattle.elements.specs.Elements.{find as finds};
-ghost use Rattle.elements.specs.Reads.{octet_at};
+ghost use Rattle.elements.specs.Elements.{find as finds, ranged, read_coded, read_two};
+ghost use Rattle.elements.specs.Reads.{Reads, octet_at};
 ghost use Rattle.elements.specs.Whole.{ended};
 
+use crate::coded::Coded;
 use crate::faults::{ElementFault, Fault};
 use cbsp::framing::HEADER;
+use cbsp::octets::two_at;
 
 // The octets of a message, and the place that reading has come to. After a fault that place means nothing. The
 // place is kept, no rest of the octets: a fault tells it, counted from the message's start. No fact ties the
@@ -55,6 +57,49 @@ impl<'a> Reader<'a> {
         ensures { result + self.now.at ≡ length self.now.octets.now }
     {
         self.octets.len() - self.at
+    }
+
+    // A number of two octets from `lo` to `hi`, of an element that begins at `start`. What is left is asked
+    // before the octets: a number cut off is another fault than one out of range.
+    pub fn number(&mut self, start: usize, lo: u16, hi: u16) -> Result<u16, ElementFault>
+        requires { self.old.at ≤ length self.old.octets.now }
+        ensures { Reads (λ n. n) self.old result self.new (read_two lo hi self.old.octets.now start self.old.at) }
+    {
+        if self.left() < 2 {
+            return Err(ElementFault::RunsPast(start));
+        }
+        let number = two_at(self.octets, self.at);
+        if !(lo..=hi).contains(&number) {
+            return Err(ElementFault::OutOfRange(self.at));
+        }
+        self.at += 2;
+        Ok(number)
+    }
+
+    // An octet from `lo` to `hi`, of an element that begins at `start`.
+    pub fn octet_within(&mut self, start: usize, lo: u8, hi: u8) -> Result<u8, ElementFault>
+        requires { self.old.at ≤ length self.old.octets.now }
+        ensures { Reads (λ n. n) self.old result self.new (read_coded (ranged lo hi) self.old.octets.now start self.old.at) }
+    {
+        let value = self.octet(start)?;
+        if !(lo..=hi).contains(&value) {
+            return Err(ElementFault::OutOfRange(self.at));
+        }
+        self.at += 1;
+        Ok(value)
+    }
+
+    // The value that an octet is the code of, of an element that begins at `start`.
+    pub fn coded<C: Coded>(&mut self, start: usize) -> Result<C, ElementFault>
+        requires { self.old.at ≤ length self.old.octets.now }
+        ensures { Reads (λ v. v) self.old result self.new (read_coded C.Coded.decode self.old.octets.now start self.old.at) }
+    {
+        let octet = self.octet(start)?;
+        let Ok(value) = C::try_from(octet) else {
+            return Err(ElementFault::OutOfRange(self.at));
+        };
+        self.at += 1;
+        Ok(value)
     }
 
     // Nothing may follow the last element.

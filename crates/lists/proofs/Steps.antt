@@ -45,7 +45,7 @@ module _
   entry_made m (Ok e) (Ok x) was is d p q z = let y : x ≡ e = cc in rw y (whole ∙ rw (d.0) (ap (λ (v : Entry). Ok (v, next + tail)) (sym d.1) ∙ ap (λ (v : ℕ). Ok (m e, v)) (sym z)), q)
   entry_made m (Ok e) (Err x) was is d p q z = absurd cc
   entry_made m (Err e) (Ok x) was is d p q z = absurd cc
-  entry_made m (Err e) (Err x) was is d p q z = let y : x ≡ record { place = next + e.index } = cc in rw y (whole ∙ rw d.0)
+  entry_made m (Err e) (Err x) was is d p q z = let y : x ≡ record { place = next + e.index } = cc in (rw y (whole ∙ rw d.0), q)
 
 module _ (k : Kind) (broken : EntryFault) (h end : ℕ) (os : List ℕ) where
   pub done : (room at : ℕ) → end ≤ at → read_entries k broken h end os room at ≡ Ok []

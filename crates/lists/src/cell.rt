@@ -3,7 +3,7 @@ ghost use Rattle.std.specs.Prelude.{◌≡◌, ◌<◌, ◌≤◌, length, IfOk}
 ghost use Rattle.elements.specs.Reads.{Reads};
 ghost use Rattle.elements.specs.Writes.{Room, Writes};
 ghost use Rattle.lists.specs.Cells.{cell_octets, form_of, read_cell};
-ghost use Rattle.lists.specs.Forms.{form_code};
+ghost use Rattle.lists.specs.Forms.{form_code, form_number};
 
 use crate::form::Form;
 use cbsp::octets::two_at;
@@ -56,26 +56,29 @@ impl CellIdentity {
     }
 }
 
-// The identity at the reader's place; `broken` where the octets end before it does. How much is left is asked
-// before: then each arm says its octets by their places.
+// The identity at the reader's place; `broken` where the octets end before it does, and under no known
+// discriminator. How much is left is asked before: then each arm says its octets by their places.
 pub fn read_cell(
     reader: &mut Reader<'_>,
-    form: Form,
+    form: Option<Form>,
     broken: EntryFault,
 ) -> Result<CellIdentity, EntryFault>
     requires { reader.old.at ≤ length reader.old.octets.now }
-    ensures value { Reads (λ c. c) reader.old result reader.new (read_cell broken (form_code form) (length reader.old.octets.now) reader.old.octets.now reader.old.at) }
+    ensures value { Reads (λ c. c) reader.old result reader.new (read_cell broken (form_number form) (length reader.old.octets.now) reader.old.octets.now reader.old.at) }
     ensures bound { IfOk result (λ _. (reader.old.at < reader.new.at) × (reader.new.at ≤ length reader.old.octets.now)) }
 {
     let at = reader.at;
     let octets = reader.octets;
     let left = reader.left();
     let cell = match form {
-        Form::LacCi if left >= 4 => CellIdentity::LacCi(two_at(octets, at), two_at(octets, at + 2)),
-        Form::Ci if left >= 2 => CellIdentity::Ci(two_at(octets, at)),
-        Form::Lac if left >= 2 => CellIdentity::Lac(two_at(octets, at)),
-        Form::All if left >= 1 && octets[at] == 0 => CellIdentity::All,
-        Form::All if left >= 1 => return Err(EntryFault { place: at }),
+        Some(Form::LacCi) if left >= 4 => CellIdentity::LacCi(
+            two_at(octets, at),
+            two_at(octets, at + 2),
+        ),
+        Some(Form::Ci) if left >= 2 => CellIdentity::Ci(two_at(octets, at)),
+        Some(Form::Lac) if left >= 2 => CellIdentity::Lac(two_at(octets, at)),
+        Some(Form::All) if left >= 1 && octets[at] == 0 => CellIdentity::All,
+        Some(Form::All) if left >= 1 => return Err(EntryFault { place: at }),
         _ => return Err(broken),
     };
     reader.at += cell.width();

@@ -44,7 +44,7 @@ impl ListHead {
         ensures bound { IfOk result (λ _. (reader.old.at < reader.new.at) × (reader.new.at ≤ length reader.old.octets.now)) }
     {
         let form = self.read_form::<E>(reader)?;
-        let cell = read_cell(reader, form, self.broken)?;
+        let cell = read_cell(reader, Some(form), self.broken)?;
         let tail = reader.at;
         if reader.left() < E::TAIL {
             return Err(self.broken);

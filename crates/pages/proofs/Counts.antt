@@ -52,5 +52,5 @@ text_wide c ps n l e =
     let b = and_parts (leb 1 (length ps)) (leb (length ps) 15) a.0 in
     let m : length ps ≤ 15 = leb-true (length ps) 15 b.1 in
     let w : length (text.spell (c, ps)) ≡ 4 + 84 * n = omega (arith, pages_wide ps a.1, a.2) in
-    let h : 4 + 84 * n ≤ 2044 = omega (arith, a.2) in
-    rw (f, w, le-leb (4 + 84 * n) 2044 h) refl
+    let h : 4 + 84 * n ≤ 65535 = omega (arith, a.2) in
+    rw (f, w, le-leb (4 + 84 * n) 65535 h) refl

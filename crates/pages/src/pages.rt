@@ -1,4 +1,5 @@
 // Pages that are still to be given, one after the other.
+ghost use Rattle.std.specs.Prelude.{◌≡◌, length};
 ghost use Rattle.std.specs.Iterator.{YieldsFirst, item_count};
 ghost use Rattle.pages.specs.Pages.{pages_meant};
 
@@ -10,6 +11,18 @@ use crate::page::{PAGE_ELEMENT, Page, page_at};
 pub enum Pages<'a> {
     Read(&'a [[u8; PAGE_ELEMENT]]),
     Given(&'a [Page]),
+}
+
+impl Pages<'_> {
+    // How many are still to be given, without a look at any.
+    pub(crate) fn len(&self) -> usize
+        ensures { result ≡ length (pages_meant self.now) }
+    {
+        match self {
+            Pages::Read(elements) => elements.len(),
+            Pages::Given(pages) => pages.len(),
+        }
+    }
 }
 
 impl Iterator for Pages<'_> {

@@ -10,10 +10,10 @@ use Rattle.elements.proofs.Appending.{limited_some, writes_then}
 use Rattle.writing.specs.Writing.{can_be_spelt}
 
 module _ (fits : Bool) (t : ℕ) (xs : List ℕ) (width : ℕ) (e : Some width ≡ limited fits xs) where
-  pub can : can_be_spelt fits (headed t xs) ≡ true
-  can =
+  pub can : width ≤ 2044 → can_be_spelt fits (headed t xs) ≡ true
+  can l =
       let s = limited_some fits xs width e in
-      and_from fits (leb (length (headed t xs)) 2048) s.0 (le-leb (length (headed t xs)) 2048 (omega (arith, s.1, s.2)))
+      and_from fits (leb (length (headed t xs)) 2048) s.0 (le-leb (length (headed t xs)) 2048 (omega (arith, s.1, l)))
 
   pub wrote :
       (o : ℕ) (was is : List ℕ) (a b c d : Writer) → o ≡ t → a.out.now ≡ was → a.at ≡ 0 → width + 4 ≤ length was

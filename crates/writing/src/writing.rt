@@ -18,7 +18,7 @@ use answers::layouts::{
 };
 use cbsp::framing::HEADER;
 use cbsp::message_type::MessageType;
-use elements::elements::Elements;
+use elements::elements::{Elements, MOST};
 use elements::writer::Writer;
 use messages::message::Message;
 use requests::layouts::{KeepAliveElements, ReferenceFields, ResetElements, WriteFields};
@@ -79,6 +79,9 @@ fn write_elements<'a, E: Elements<'a>>(
     let Some(width) = E::width(value) else {
         return Err(Unwritten::OutOfRange);
     };
+    if width > MOST {
+        return Err(Unwritten::OutOfRange);
+    }
     if out.len() < width + HEADER {
         return Err(Unwritten::NoRoom);
     }

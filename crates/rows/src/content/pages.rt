@@ -1,5 +1,5 @@
 // Filling a content, and reading it.
-ghost use Rattle.std.specs.Prelude.{◌≡◌, ◌<◌, [], ◌∷◌, ◌++◌, Ok, Err, length, IfOk, if◌then◌else◌, nat_lt};
+ghost use Rattle.std.specs.Prelude.{◌≡◌, ◌<◌, ◌≤◌, [], ◌∷◌, ◌++◌, Ok, Err, length, IfOk, if◌then◌else◌, nat_lt};
 ghost use Rattle.rows.specs.Texts.{no_text, text_of};
 
 use super::Content;
@@ -22,7 +22,8 @@ impl Content {
     }
 
     pub fn pages(&self) -> &[Page]
-        ensures { result.now ≡ (text_of self.now).pages }
+        ensures value { result.now ≡ (text_of self.now).pages }
+        ensures few { length result.now ≤ 15 }
     {
         self.pages.as_slice()
     }

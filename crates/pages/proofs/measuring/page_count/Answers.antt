@@ -1,5 +1,5 @@
-use Rattle.std.proofs.Common.{rules, tests, ◌≡◌, ◌≤◌, length, sym, refl, ◌∙◌}
-use Rattle.std.proofs.lemmas.Iterator.Consumers.{YieldsList-from_first, count_from_yields_List}
+use Rattle.std.proofs.Common.{rules, tests, ◌≡◌, ◌≤◌, sym, refl, ◌∙◌}
+use Rattle.std.proofs.lemmas.Iterator.Consumers.{YieldsList-from_first}
 use Rattle.std.proofs.lemmas.Iterator.Search.{all_from_yields_List}
 use Rattle.std.specs.List.{list_all}
 use Rattle.pages.specs.Pages.{page, pages_meant}
@@ -13,12 +13,11 @@ returns-then-not-all c =
     = all_from_yields_List page.fits c.all.new.self _ c.all.result c.all.ensures.ran (YieldsList-from_first (λ x. x) pages_meant ps refl) (λ x b q k. search (rules, tests)) in
     sym (unfit ps (sym r ∙ c.if-not-all.true))
 
-pub returns-then-contains : goal.returns-then-contains
-returns-then-contains c =
+pub returns : goal.returns
+returns c =
     let ps = pages_meant c.args.pages in
     let r : c.all.result ≡ list_all page.fits ps
     = all_from_yields_List page.fits c.all.new.self _ c.all.result c.all.ensures.ran (YieldsList-from_first (λ x. x) pages_meant ps refl) (λ x b q k. search (rules, tests)) in
-    let n : c.count-count.result ≡ length ps = count_from_yields_List c.args.pages c.count-count.result c.count-count.ensures.ran (YieldsList-from_first (λ x. x) pages_meant ps refl) in
-    let low : 1 ≤ c.count-count.result = search (rules, tests) in
-    let high : c.count-count.result ≤ 15 = search (rules, tests) in
-    sym (counted ps _ (sym r ∙ c.if-not-all.false) n low high)
+    let low : 1 ≤ c.len-count.result = search (rules, tests) in
+    let high : c.len-count.result ≤ 15 = search (rules, tests) in
+    sym (counted ps _ (sym r ∙ c.if-not-all.false) c.len-count.ensures low high)

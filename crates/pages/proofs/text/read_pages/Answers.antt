@@ -9,7 +9,8 @@ pub returns-in_err-read : goal.returns-in_err-read
 returns-in_err-read c =
     let p = err_from_is_err_and c.from_residual.result c.from_residual.ensures.1 in
     let o = ap (λ b. b.now) (sym c.loop.invariant.1) in
-    rw (p.1, p.2) (sofar_fault _ _ _ _ _ c.loop.invariant.0 c.loop-test.true _ (rw o c.in_err-read.ensures))
+    rw (p.1, p.2)
+    (sofar_fault _ _ _ _ _ c.loop.invariant.0 c.loop-test.true _ (rw o (c.in_err-read.ensures.0)), c.in_err-read.ensures.1 ∙ c.loop.invariant.1)
 
 pub loop-preserved : goal.loop-preserved
 loop-preserved c =

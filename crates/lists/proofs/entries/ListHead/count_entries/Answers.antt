@@ -12,7 +12,7 @@ returns-in_err-_entry g c =
     let p = err_from_is_err_and c.from_residual.result c.from_residual.ensures.1 in
     rw (p.1, p.2)
     (inv-fault k c.args.self.broken (form_number c.args.self.form) _ c.args.reader.octets.now _ i.3.0 (k.most - c.loop-rest.count) c.loop-rest.rest.at _ i.3.2
-    (rw i.0 at c.loop-rest-test.true) (omega (arith, c.MOST.ensures, g.met.E.ListEntry.stated.most_is)) (rw i.0 at c.in_err-_entry.ensures.value))
+    (rw i.0 at c.loop-rest-test.true) (omega (arith, c.MOST.ensures, g.met.E.ListEntry.stated.most_is)) (rw i.0 at c.in_err-_entry.ensures.value.0))
 
 pub loop-rest-preserved : goal.loop-rest-preserved
 loop-rest-preserved g c =

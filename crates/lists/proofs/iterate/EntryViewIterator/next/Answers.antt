@@ -18,7 +18,7 @@ returns-then-self-eq0-clause-steps g c =
 pub returns-in_default-clause-steps : goal.returns-in_default-clause-steps
 returns-in_default-clause-steps g c =
     let v = c.args.self.now in
-    let e = from_fault g.E.ListEntry.kind v.head.broken _ (length v.reader.octets.now) v.reader.octets.now v.left v.reader.at _ c.in_default.ensures.value c.if-self.false in
+    let e = from_fault g.E.ListEntry.kind v.head.broken _ (length v.reader.octets.now) v.reader.octets.now v.left v.reader.at _ c.in_default.ensures.value.0 c.if-self.false in
     ((e, e), refl)
 
 pub returns-clause-steps : goal.returns-clause-steps
